@@ -7,7 +7,7 @@ use Rattle.tsn_bytes.specs.declared.bytes.Fault.{Fault}
 use Rattle.tsn_bytes.specs.declared.bytes.Fault.TheVariants.{Write, Exhausted}
 use Rattle.tsn_serve.specs.Script.{Answering, Breaking, Run}
 use Rattle.tsn_serve.specs.Pieces.{Going, Feeds, Ends, Breaks, EndBreaks}
-use Rattle.tsn_serve.specs.Outcomes.{Moment, Moves, Completes, BreaksOff, IsBroken, Outcome}
+use Rattle.tsn_serve.specs.Outcomes.{Moment, Moves, Ran, Completes, BreaksOff, IsBroken, Outcome}
 use Rattle.tsn_serve.proofs.Running.{opened}
 
 -- Between two reads: this input was read in so many calls, each of which gave a byte, its whole lines were answered,
@@ -27,6 +27,48 @@ counts_more before m made after f g fits =
     let so_far : m ≡ before + made = f (omega arith) in
     let then : after ≡ m + 1 = g (omega arith) in
     omega arith
+
+-- one read more, which gave this piece
+moves_on : {S : Type 0} (answers : Answering S) (old now new : Moment S) (kept : Option (List ℕ)) (made : ℕ) (piece written : List ℕ)
+    (flushed : Option (List ℕ)) (u : Underway answers old now kept made)
+    → Consumes now.left new.left piece → Counts now.calls new.calls 1 → Keeps now.taken flushed → Appends flushed new.taken written
+    → Moves old new (u.input ++ piece) (u.text ++ written) (made + 1)
+moves_on answers old now new kept made piece written flushed u left calls took wrote = record {
+  read = Consumes-trans _ _ _ _ _ u.moves.read left;
+  counts = counts_more old.calls now.calls made new.calls u.moves.counts calls;
+  wrote = Appends-trans _ _ _ _ _ (Appends-kept _ _ _ _ u.moves.wrote took) wrote;
+}
+
+-- the last read, which gave nothing
+abbrev ran_out : {S : Type 0} (answers : Answering S) (reads : ℕ) (old now new : Moment S) (kept : Option (List ℕ)) (made : ℕ)
+    (written : List ℕ) (flushed : Option (List ℕ))
+    → Underway answers old now kept made → made < reads
+    → Consumes now.left new.left [] → Counts now.calls new.calls 1 → Keeps now.taken flushed → Appends flushed new.taken written
+    → Ran reads old new
+ran_out answers reads old now new kept made written flushed u few left calls took wrote = record {
+  input = u.input;
+  text = u.text ++ written;
+  made = made + 1;
+  moves = subst (λ i. Moves old new i (u.text ++ written) (made + 1)) (append-nil u.input)
+      (moves_on answers old now new kept made [] written flushed u left calls took wrote);
+  few = omega arith;
+}
+
+-- no read more
+abbrev ran_so_far : {S : Type 0} (answers : Answering S) (reads : ℕ) (old now new : Moment S) (kept : Option (List ℕ)) (made : ℕ)
+    → Underway answers old now kept made → made ≤ reads → new.left ≡ now.left → new.calls ≡ now.calls → Keeps now.taken new.taken
+    → Ran reads old new
+ran_so_far answers reads old now new kept made u few left calls took = record {
+  input = u.input;
+  text = u.text;
+  made = made;
+  moves = record {
+    read = subst (λ l. Consumes old.left l u.input) (sym left) u.moves.read;
+    counts = subst (λ n. Counts old.calls n made) (sym calls) u.moves.counts;
+    wrote = Appends-kept _ _ _ _ u.moves.wrote took;
+  };
+  few = few;
+}
 
 -- before the first read
 pub begun : {S : Type 0} (answers : Answering S) (now : Moment S) (kept : Option (List ℕ)) → kept ≡ Some []
@@ -49,16 +91,8 @@ pub flush_failed : {S : Type 0} (answers : Answering S) (breaks : Breaking S) (r
     → Keeps now.taken new.taken → new.writer_failed ≡ true
     → IsBroken answers breaks reads Write old new
 flush_failed answers breaks reads old now new kept made u few state left calls reader took failed = record {
-  input = u.input;
-  written = u.text;
-  made = made;
+  ran = ran_so_far answers reads old now new kept made u few left calls took;
   at_end = false;
-  moves = record {
-    read = subst (λ l. Consumes old.left l u.input) (sym left) u.moves.read;
-    counts = subst (λ n. Counts old.calls n made) (sym calls) u.moves.counts;
-    wrote = Appends-kept _ _ _ _ u.moves.wrote took;
-  };
-  few = few;
   ended = λ e. absurd (let f : false ≡ true = e in cc);
   script = inr (
     refl,
@@ -81,15 +115,17 @@ pub read_failed : {S : Type 0} (answers : Answering S) (reads : ℕ) (old now ne
     → Keeps now.taken new.taken → new.held_back ≡ [] → new.writer_failed ≡ now.writer_failed
     → BreaksOff answers reads old new
 read_failed answers reads old now new kept made u few state left calls failed took out writer = record {
-  input = u.input;
-  text = u.text;
-  made = made + 1;
-  moves = record {
-    read = Consumes-kept _ _ _ _ u.moves.read left;
-    counts = counts_more old.calls now.calls made new.calls u.moves.counts calls;
-    wrote = Appends-kept _ _ _ _ u.moves.wrote took;
+  ran = record {
+    input = u.input;
+    text = u.text;
+    made = made + 1;
+    moves = record {
+      read = Consumes-kept _ _ _ _ u.moves.read left;
+      counts = counts_more old.calls now.calls made new.calls u.moves.counts calls;
+      wrote = Appends-kept _ _ _ _ u.moves.wrote took;
+    };
+    few = omega arith;
   };
-  few = omega arith;
   cause = inl failed;
   script = (u.going.lines, u.going.rest, u.going.splits, subst (λ s. Run answers old.state u.going.lines u.text s) (sym state) u.going.run);
   handed_on = out;
@@ -103,15 +139,7 @@ pub bound_reached : {S : Type 0} (answers : Answering S) (reads : ℕ) (old now 
     → Keeps now.taken new.taken → new.held_back ≡ [] → new.writer_failed ≡ now.writer_failed
     → BreaksOff answers reads old new
 bound_reached answers reads old now new kept made u all state left calls took out writer = record {
-  input = u.input;
-  text = u.text;
-  made = made;
-  moves = record {
-    read = subst (λ l. Consumes old.left l u.input) (sym left) u.moves.read;
-    counts = subst (λ n. Counts old.calls n made) (sym calls) u.moves.counts;
-    wrote = Appends-kept _ _ _ _ u.moves.wrote took;
-  };
-  few = omega arith;
+  ran = ran_so_far answers reads old now new kept made u (omega arith) left calls took;
   cause = inr (all, let e = u.each in omega arith);
   script = (u.going.lines, u.going.rest, u.going.splits, subst (λ s. Run answers old.state u.going.lines u.text s) (sym state) u.going.run);
   handed_on = out;
@@ -129,11 +157,7 @@ pub fed : {S : Type 0} (answers : Answering S) (old now new : Moment S) (kept ke
 fed answers old now new kept kept' made piece text flushed u some left calls reader took wrote writer feeds = record {
   input = u.input ++ piece;
   text = u.text ++ text;
-  moves = record {
-    read = Consumes-trans _ _ _ _ _ u.moves.read left;
-    counts = counts_more old.calls now.calls made new.calls u.moves.counts calls;
-    wrote = Appends-trans _ _ _ _ _ (Appends-kept _ _ _ _ u.moves.wrote took) wrote;
-  };
+  moves = moves_on answers old now new kept made piece text flushed u left calls took wrote;
   going = feeds old.state u.input u.text u.going;
   each = let e = u.each in simp length-append (omega arith);
   reader_worked = reader ∙ u.reader_worked;
@@ -151,16 +175,14 @@ pub feed_broke : {S : Type 0} (answers : Answering S) (breaks : Breaking S) (rea
     → IsBroken answers breaks reads fault old new
 feed_broke answers breaks reads fault old now new kept made piece written flushed u few left calls reader took wrote failed worked broken =
     record {
-      input = u.input ++ piece;
-      written = u.text ++ written;
-      made = made + 1;
-      at_end = false;
-      moves = record {
-        read = Consumes-trans _ _ _ _ _ u.moves.read left;
-        counts = counts_more old.calls now.calls made new.calls u.moves.counts calls;
-        wrote = Appends-trans _ _ _ _ _ (Appends-kept _ _ _ _ u.moves.wrote took) wrote;
+      ran = record {
+        input = u.input ++ piece;
+        text = u.text ++ written;
+        made = made + 1;
+        moves = moves_on answers old now new kept made piece written flushed u left calls took wrote;
+        few = omega arith;
       };
-      few = omega arith;
+      at_end = false;
       ended = λ e. absurd (let f : false ≡ true = e in cc);
       script = inl (broken old.state u.input u.text u.going);
       reader_worked = reader ∙ u.reader_worked;
@@ -180,16 +202,8 @@ pub finish_broke : {S : Type 0} (answers : Answering S) (breaks : Breaking S) (r
 finish_broke answers breaks reads fault old now new kept made written flushed u few left at_end calls reader took wrote failed worked
     broken =
     record {
-      input = u.input;
-      written = u.text ++ written;
-      made = made + 1;
+      ran = ran_out answers reads old now new kept made written flushed u few left calls took wrote;
       at_end = true;
-      moves = record {
-        read = subst (λ l. Consumes old.left new.left l) (append-nil u.input) (Consumes-trans _ _ _ _ _ u.moves.read left);
-        counts = counts_more old.calls now.calls made new.calls u.moves.counts calls;
-        wrote = Appends-trans _ _ _ _ _ (Appends-kept _ _ _ _ u.moves.wrote took) wrote;
-      };
-      few = omega arith;
       ended = λ _. at_end;
       script = inl (broken old.state u.input u.text u.going);
       reader_worked = reader ∙ u.reader_worked;
@@ -208,16 +222,8 @@ pub last_flush_failed : {S : Type 0} (answers : Answering S) (breaks : Breaking 
 last_flush_failed answers breaks reads old now new kept made text flushed taken u few left at_end calls reader took wrote kept_on failed
     ends =
     record {
-      input = u.input;
-      written = u.text ++ text;
-      made = made + 1;
+      ran = ran_out answers reads old now new kept made text flushed u few left calls took (Appends-kept _ _ _ _ wrote kept_on);
       at_end = true;
-      moves = record {
-        read = subst (λ l. Consumes old.left new.left l) (append-nil u.input) (Consumes-trans _ _ _ _ _ u.moves.read left);
-        counts = counts_more old.calls now.calls made new.calls u.moves.counts calls;
-        wrote = Appends-kept _ _ _ _ (Appends-trans _ _ _ _ _ (Appends-kept _ _ _ _ u.moves.wrote took) wrote) kept_on;
-      };
-      few = omega arith;
       ended = λ _. at_end;
       script = inr (refl, ends old.state u.input u.text u.going);
       reader_worked = reader ∙ u.reader_worked;
@@ -236,15 +242,7 @@ pub completed : {S : Type 0} (answers : Answering S) (reads : ℕ) (old now new 
     → Completes answers reads old new
 completed answers reads old now new kept made text flushed taken u few left at_end calls reader took wrote kept_on out writer ends =
     record {
-      input = u.input;
-      text = u.text ++ text;
-      made = made + 1;
-      moves = record {
-        read = subst (λ l. Consumes old.left new.left l) (append-nil u.input) (Consumes-trans _ _ _ _ _ u.moves.read left);
-        counts = counts_more old.calls now.calls made new.calls u.moves.counts calls;
-        wrote = Appends-kept _ _ _ _ (Appends-trans _ _ _ _ _ (Appends-kept _ _ _ _ u.moves.wrote took) wrote) kept_on;
-      };
-      few = omega arith;
+      ran = ran_out answers reads old now new kept made text flushed u few left calls took (Appends-kept _ _ _ _ wrote kept_on);
       at_end = at_end;
       script = ends old.state u.input u.text u.going;
       handed_on = out;

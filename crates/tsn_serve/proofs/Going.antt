@@ -122,14 +122,14 @@ broken_goes : (reads : ℕ) (fault : Fault) (old new : Moment Caller) → IsBrok
 broken_goes reads fault old new b = elim b.script [
   | inl cut ↦ on old.state cut.mid new.state (talks_go old.state cut.lines cut.text cut.mid cut.run)
       (breaks_goes cut.mid (short_line cut.line) fault cut.part new.state cut.broken)
-  | inr all ↦ all_go b.at_end old.state b.input b.written new.state all.1
+  | inr all ↦ all_go b.at_end old.state b.ran.input b.ran.text new.state all.1
 ]
 
 -- however a connection ends
 pub ends_go : (reads : ℕ) (old new : Moment Caller) (r : Result (Unit {0}) Fault) → Outcome Talks BreaksTalk reads old new r
     → Goes old.state new.state
-ends_go reads old new (Ok u) o = all_go true old.state o.input o.text new.state o.script
-ends_go reads old new (Err Read) o = all_go false old.state o.input o.text new.state o.script
+ends_go reads old new (Ok u) o = all_go true old.state o.ran.input o.ran.text new.state o.script
+ends_go reads old new (Err Read) o = all_go false old.state o.ran.input o.ran.text new.state o.script
 ends_go reads old new (Err Write) o = broken_goes reads Write old new o
 ends_go reads old new (Err Exhausted) o = broken_goes reads Exhausted old new o
 ends_go reads old new (Err Memory) o = same_goes old.state new.state (ap (λ m. m.state) o)
@@ -139,14 +139,8 @@ ends_go reads old new (Err Memory) o = same_goes old.state new.state (ap (λ m. 
 -- a seat whose calls were those of a connection
 pub sat : (desk : Desk State Ask Reply) (old new : BridgeSeat) → IsSeatOf desk new
     → Goes (caller_of desk old None) (caller_of desk new None) → GoesOn desk old new
-sat desk old new own g = record {
-  own = own;
-  number_is = g.number;
-  seen_more = g.seen;
-  made_more = g.made;
-  legal = g.legal;
-  calls = g.own;
-}
+sat desk old new own g =
+    record { own = own; number_is = g.number; seen_more = g.seen; made_more = g.made; legal = g.legal; calls = g.own }
 
 -- a seat that served no connection
 pub sat_still : (desk : Desk State Ask Reply) (seat : BridgeSeat) → IsSeatOf desk seat → GoesOn desk seat seat

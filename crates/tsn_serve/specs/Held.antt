@@ -16,15 +16,8 @@ use Rattle.tsn_serve.specs.Talk.{Caller, caller_of}
 -- a connection as a caller; while its seat is out in a turn nothing is asked of it
 abbrev pub shown : {D : _} → Desk State Ask Reply → Option (Seat State Ask Reply D) → Option ℕ → Caller
 shown desk (Some seat) latest = caller_of desk seat latest
-shown desk None latest = record {
-  desk = id_of desk;
-  first = first_of desk;
-  number = 0;
-  seen = [];
-  made = [];
-  tickets = 0;
-  latest = latest;
-}
+shown desk None latest =
+    record { desk = id_of desk; first = first_of desk; number = 0; seen = []; made = []; tickets = 0; latest = latest }
 
 -- between two turns the seat is there, and is one of the desk
 pub record IsHeld {D : _} (desk : Desk State Ask Reply) (seat : Option (Seat State Ask Reply D)) : Type 0 where

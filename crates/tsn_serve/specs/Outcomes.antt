@@ -40,16 +40,20 @@ pub record Moves {S : Type 0} (old new : Moment S) (input written : List ℕ) (m
   pub counts : Counts old.calls new.calls made
   pub wrote : Appends old.taken new.taken written
 
--- All of the input was read, in so many reads at most. What was written is the text of its script and nothing else,
--- and nothing is held back. No call failed.
-pub record Completes {S : Type 0} (answers : Answering S) (reads : ℕ) (old new : Moment S) : Type 0 where
+-- In so many reads at most this input was read, and this text was written.
+pub record Ran {S : Type 0} (reads : ℕ) (old new : Moment S) : Type 0 where
   pub input : List ℕ
   pub text : List ℕ
   pub made : ℕ
   pub moves : Moves old new input text made
   pub few : made ≤ reads
+
+-- All of the input was read, in so many reads at most. What was written is the text of its script and nothing else,
+-- and nothing is held back. No call failed.
+pub record Completes {S : Type 0} (answers : Answering S) (reads : ℕ) (old new : Moment S) : Type 0 where
+  pub ran : Ran reads old new
   pub at_end : IsAtEnd new.left
-  pub script : IsScript answers old.state input text new.state
+  pub script : IsScript answers old.state ran.input ran.text new.state
   pub handed_on : new.held_back ≡ []
   pub reader_worked : new.reader_failed ≡ old.reader_failed
   pub writer_worked : new.writer_failed ≡ old.writer_failed
@@ -57,13 +61,9 @@ pub record Completes {S : Type 0} (answers : Answering S) (reads : ℕ) (old new
 -- The reader failed; or so many reads were made, and each gave a byte. All lines that a line feed ended were answered,
 -- nothing else was written, and nothing is held back.
 pub record BreaksOff {S : Type 0} (answers : Answering S) (reads : ℕ) (old new : Moment S) : Type 0 where
-  pub input : List ℕ
-  pub text : List ℕ
-  pub made : ℕ
-  pub moves : Moves old new input text made
-  pub few : made ≤ reads
-  pub cause : (new.reader_failed ≡ true) ⊎ ((made ≡ reads) × (reads ≤ length input))
-  pub script : OpenScript answers old.state input text new.state
+  pub ran : Ran reads old new
+  pub cause : (new.reader_failed ≡ true) ⊎ ((ran.made ≡ reads) × (reads ≤ length ran.input))
+  pub script : OpenScript answers old.state ran.input ran.text new.state
   pub handed_on : new.held_back ≡ []
   pub writer_worked : new.writer_failed ≡ old.writer_failed
 
@@ -71,15 +71,11 @@ pub record BreaksOff {S : Type 0} (answers : Answering S) (reads : ℕ) (old new
 -- writer took all replies to these lines, and failed to hand on what it held back.
 pub record IsBroken {S : Type 0} (answers : Answering S) (breaks : Breaking S) (reads : ℕ) (fault : Fault) (old new : Moment S) : Type 0
   where
-    pub input : List ℕ
-    pub written : List ℕ
-    pub made : ℕ
+    pub ran : Ran reads old new
     pub at_end : Bool
-    pub moves : Moves old new input written made
-    pub few : made ≤ reads
     pub ended : at_end ≡ true → IsAtEnd new.left
-    pub script : BrokenScript answers breaks fault at_end old.state input written new.state
-        ⊎ ((fault ≡ Write) × AllAnswered answers at_end old.state input written new.state)
+    pub script : BrokenScript answers breaks fault at_end old.state ran.input ran.text new.state
+        ⊎ ((fault ≡ Write) × AllAnswered answers at_end old.state ran.input ran.text new.state)
     pub reader_worked : new.reader_failed ≡ old.reader_failed
     pub writer_failed : fault ≡ Write → new.writer_failed ≡ true
     pub writer_worked : fault ≢ Write → new.writer_failed ≡ old.writer_failed

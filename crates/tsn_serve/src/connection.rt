@@ -13,7 +13,7 @@ ghost use Rattle.tsn_serve.specs.Outcomes.{Outcome, moment, most_reads};
 
 use crate::gate::Gate;
 use crate::lots::{MOST_REPLIES, ReadLine, front_line, is_brief, read_lot};
-use crate::responder::{Responder, answer_lines};
+use crate::responder::{Ended, Responder, answer_lines};
 use crate::script::{READS, read_line};
 use std::alloc::Global;
 use std::marker::Model;
@@ -194,11 +194,7 @@ impl<'a, R: Wait, G: Gate, W: Witness<Bridge> + Drop> Connection<'a, R, G, W> {
 
     // Answers what a line was read as.
     #[inline(always)]
-    fn answer_read<O: ByteOut>(
-        &mut self,
-        read: Result<Ask, Refusal>,
-        writer: &mut O,
-    ) -> Result<(), Fault>
+    fn answer_read<O: ByteOut>(&mut self, read: Result<Ask, Refusal>, writer: &mut O) -> Ended
         ensures ok { OnOk result ((text : List ℕ)
             × ((line : Option (List ℕ)) → MayRead line read → Talks self.old line text self.new)
             × Appends (O.taken writer.old) (O.taken writer.new) text) }
@@ -295,25 +291,14 @@ impl<'a, R: Wait, G: Gate, W: Witness<Bridge> + Drop> Connection<'a, R, G, W> {
         false
     }
 
-    // The same with the door locked where turns follow each other, so that no other connection's lot comes between.
-    fn answer_lot<O: ByteOut>(
-        &mut self,
-        lot: Vec<ReadLine>,
-        bytes: &[u8],
-        writer: &mut O,
-    ) -> Result<usize, Fault>
-        requires { (0 < vec_len lot) × ((rest : List ℕ) × IsLot bytes.now lot.items rest) }
-        ensures front { AnswersFront Talks BreaksTalk self.old bytes.now (O.taken writer.old) (O.taken writer.new) result self.new }
-        ensures worked { result ≢ Err Write → O.has_failed writer.new ≡ O.has_failed writer.old }
-        ensures failed { IsErrOf result Write → O.has_failed writer.new ≡ true }
+    // Locks the door where turns follow each other, so that no other connection's lot comes between.
+    fn enter_for(&mut self, lot: &[ReadLine])
+        ensures { self.new ≡ self.old }
     {
-        if self.takes_turns(lot.as_slice()) {
+        if self.takes_turns(lot) {
             self.desk.lock_door(self.rt);
             self.standing = Standing::Inside;
         }
-        let answered = self.answer_each(lot, bytes, writer);
-        self.leave_unless(false);
-        answered
     }
 
     // Answers what the first line of these bytes was read as, and the lines that lie whole behind it where their
@@ -343,7 +328,12 @@ impl<'a, R: Wait, G: Gate, W: Witness<Bridge> + Drop> Connection<'a, R, G, W> {
             is_brief,
         };
         match read_lot(alloc, first, bytes) {
-            Ok(lot) => self.answer_lot(lot, bytes, writer),
+            Ok(lot) => {
+                self.enter_for(lot.as_slice());
+                let answered = self.answer_each(lot, bytes, writer);
+                self.leave_unless(false);
+                answered
+            }
             Err(first) => self.answer_one(first.read, first.count, bytes, writer),
         }
     }
@@ -354,12 +344,7 @@ impl<'a, R: Wait, G: Gate, W: Witness<Bridge> + Drop> Responder for Connection<'
 
     ghost breaks = { BreaksTalk };
 
-    fn answer<O: ByteOut>(
-        &mut self,
-        alloc: Global,
-        line: Option<&[u8]>,
-        writer: &mut O,
-    ) -> Result<(), Fault> {
+    fn answer<O: ByteOut>(&mut self, alloc: Global, line: Option<&[u8]>, writer: &mut O) -> Ended {
         self.answer_read(read_line(alloc, line), writer)
     }
 
@@ -395,7 +380,7 @@ pub fn session<R: Wait, I: ByteIn, O: ByteOut, G: Gate>(
     reader: &mut I,
     writer: &mut O,
     gate: &G,
-) -> (Seat<Bridge>, Result<(), Fault>)
+) -> (Seat<Bridge>, Ended)
     requires { IsSeatOf desk.now seat }
     ensures own { IsSeatOf desk.now result.0 }
     ensures goes { Goes (caller_of desk.now seat None) (caller_of desk.now result.0 None) }
@@ -405,8 +390,7 @@ pub fn session<R: Wait, I: ByteIn, O: ByteOut, G: Gate>(
         (moment I.remaining I.calls I.has_failed O.taken O.pending O.has_failed
         (caller_of desk.now result.0 latest) reader.new writer.new)
         result.1 }
-    ensures untouched { IsErrOf result.1 Memory
-        → (reader.new ≡ reader.old) × (writer.new ≡ writer.old) }
+    ensures untouched { IsErrOf result.1 Memory → (reader.new ≡ reader.old) × (writer.new ≡ writer.old) }
 {
     let mut end = Connection::new(rt, desk, seat, connection, gate, Nobody);
     let ended = answer_lines(alloc, &mut end, reader, writer, READS);

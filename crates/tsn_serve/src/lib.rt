@@ -21,6 +21,6 @@ pub use host::{Gated, Host, start_with};
 pub use laws::{example_cuts, one_cut, served};
 pub use line_buffer::{LineBuffer, MAX_LINE};
 pub use probing::{Probe, Probed, ServeFault};
-pub use responder::{Responder, answer_lines, feed, finish};
+pub use responder::{Ended, Responder, answer_lines, feed, finish};
 pub use script::{read_line, run_script, run_script_up_to};
 pub use serving::{Served, Source, serve_all, serve_beside, serve_seats};

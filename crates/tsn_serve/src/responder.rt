@@ -19,6 +19,9 @@ use tsn_bytes::{ByteIn, ByteOut, Failed, Fault};
 // The most bytes of one read.
 const CHUNK: usize = 65536;
 
+/// How answers ended: all were given, or a fault broke them off.
+pub type Ended = Result<(), Fault>;
+
 /// What answers command lines.
 pub trait Responder {
     // From the state old a line may have this text, its line feed in it, with the state new after it. None is a line
@@ -31,12 +34,7 @@ pub trait Responder {
 
     /// Answers a line, given without its line feed; none is a line that is too long. The faults are `Write`, where
     /// the writer failed, and `Exhausted`, where the responder can answer no more.
-    fn answer<W: ByteOut>(
-        &mut self,
-        alloc: Global,
-        line: Option<&[u8]>,
-        writer: &mut W,
-    ) -> Result<(), Fault>
+    fn answer<W: ByteOut>(&mut self, alloc: Global, line: Option<&[u8]>, writer: &mut W) -> Ended
         ensures ok { OnOk result ((text : List ℕ)
             × answers self.old (option_map (λ s. s.now) line.entry) text self.new
             × Appends (W.taken writer.old) (W.taken writer.new) text) }
@@ -81,30 +79,8 @@ fn up_to_line_feed(bytes: &[u8]) -> &[u8]
     }
 }
 
-// Ends the line that is kept, at the line feed that the bytes begin with, and says by how many bytes.
-fn end_line<A: Responder, W: ByteOut>(
-    alloc: Global,
-    responder: &mut A,
-    line: &mut LineBuffer,
-    _bytes: &[u8],
-    writer: &mut W,
-) -> Result<usize, Fault>
-    requires { (0 < length _bytes.now) × (slice_index _bytes.now 0 ≡ line_feed) }
-    ensures front { FeedsFront A.answers A.breaks responder.old line.old _bytes.now (W.taken writer.old) (W.taken writer.new) result
-        responder.new line.new }
-    ensures worked { result ≢ Err Write → W.has_failed writer.new ≡ W.has_failed writer.old }
-    ensures failed { IsErrOf result Write → W.has_failed writer.new ≡ true }
-{
-    match responder.answer(alloc, line.get(), writer) {
-        Ok(()) => {
-            line.clear();
-            Ok(1)
-        }
-        Err(fault) => Err(fault),
-    }
-}
-
-// Goes on by a part of a line, up to its line feed, or by the line feed alone, and says by how many bytes.
+// Goes on by a part of a line, up to its line feed, or by the line feed alone, which ends the line that is kept; and
+// says by how many bytes.
 fn feed_part<A: Responder, W: ByteOut>(
     alloc: Global,
     responder: &mut A,
@@ -119,7 +95,13 @@ fn feed_part<A: Responder, W: ByteOut>(
     ensures failed { IsErrOf result Write → W.has_failed writer.new ≡ true }
 {
     if bytes[0] == b'\n' {
-        return end_line(alloc, responder, line, bytes, writer);
+        return match responder.answer(alloc, line.get(), writer) {
+            Ok(()) => {
+                line.clear();
+                Ok(1)
+            }
+            Err(fault) => Err(fault),
+        };
     }
     let part = up_to_line_feed(bytes);
     line.push_all(part);
@@ -164,7 +146,7 @@ pub fn feed<A: Responder, W: ByteOut>(
     line: &mut LineBuffer,
     piece: &[u8],
     writer: &mut W,
-) -> Result<(), Fault>
+) -> Ended
     ensures ok { OnOk result ((text : List ℕ)
         × Feeds A.answers responder.old line.old piece.now text responder.new line.new
         × Appends (W.taken writer.old) (W.taken writer.new) text) }
@@ -191,7 +173,7 @@ pub fn finish<A: Responder, W: ByteOut>(
     responder: &mut A,
     line: &LineBuffer,
     writer: &mut W,
-) -> Result<(), Fault>
+) -> Ended
     ensures ok { OnOk result ((text : List ℕ)
         × Ends A.answers responder.old line.now text responder.new
         × Appends (W.taken writer.old) (W.taken writer.new) text) }
@@ -238,15 +220,12 @@ pub fn answer_lines<A: Responder, R: ByteIn, W: ByteOut>(
     reader: &mut R,
     writer: &mut W,
     reads: u64,
-) -> Result<(), Fault>
+) -> Ended
     ensures outcome { Outcome A.answers A.breaks reads
-        (moment R.remaining R.calls R.has_failed W.taken W.pending W.has_failed
-        responder.old reader.old writer.old)
-        (moment R.remaining R.calls R.has_failed W.taken W.pending W.has_failed
-        responder.new reader.new writer.new)
+        (moment R.remaining R.calls R.has_failed W.taken W.pending W.has_failed responder.old reader.old writer.old)
+        (moment R.remaining R.calls R.has_failed W.taken W.pending W.has_failed responder.new reader.new writer.new)
         result }
-    ensures untouched { IsErrOf result Memory
-        → (reader.new ≡ reader.old) × (writer.new ≡ writer.old) }
+    ensures untouched { IsErrOf result Memory → (reader.new ≡ reader.old) × (writer.new ≡ writer.old) }
 {
     let Ok(mut line) = LineBuffer::new(alloc) else {
         return Err(Fault::Memory);

@@ -9,12 +9,12 @@ ghost use Rattle.tsn_bridge.specs.Histories as machine;
 ghost use Rattle.tsn_serve.specs.Answers.{MayRead, Replies, SaysOf, Answers, BreaksInWriting, asked};
 ghost use Rattle.tsn_serve.specs.Outcomes.{Outcome, moment, most_reads};
 
-use crate::responder::{Responder, answer_lines};
+use crate::responder::{Ended, Responder, answer_lines};
 use std::alloc::Global;
 use tsn_bridge::bridge::Bridge;
 use tsn_bridge::command::{Ask, Command};
 use tsn_bridge::reply::Reply;
-use tsn_bytes::{ByteIn, ByteOut, Fault};
+use tsn_bytes::{ByteIn, ByteOut};
 use tsn_replies::{write_kept, write_lent, write_refusal, write_reply};
 use tsn_types::keys::Key;
 use tsn_types::refusals::Refusal;
@@ -46,12 +46,7 @@ fn reply_to(bridge: &mut Bridge, read: Result<Ask, Refusal>) -> Reply
 }
 
 // Answers a show by the record itself.
-fn answer_show<W: ByteOut>(
-    bridge: &Bridge,
-    session: u32,
-    key: Key,
-    writer: &mut W,
-) -> Result<(), Fault>
+fn answer_show<W: ByteOut>(bridge: &Bridge, session: u32, key: Key, writer: &mut W) -> Ended
     ensures ok { OnOk result (SaysOf machine.Answers bridge.now (asked session (Show key))
         (λ text. Appends (W.taken writer.old) (W.taken writer.new) text)) }
     ensures worked { OnOk result (W.has_failed writer.new ≡ W.has_failed writer.old) }
@@ -67,12 +62,7 @@ fn answer_show<W: ByteOut>(
 }
 
 // Answers a since by the entries themselves.
-fn answer_since<W: ByteOut>(
-    bridge: &Bridge,
-    session: u32,
-    after: u32,
-    writer: &mut W,
-) -> Result<(), Fault>
+fn answer_since<W: ByteOut>(bridge: &Bridge, session: u32, after: u32, writer: &mut W) -> Ended
     ensures ok { OnOk result (SaysOf machine.Answers bridge.now (asked session (Since after))
         (λ text. Appends (W.taken writer.old) (W.taken writer.new) text)) }
     ensures worked { OnOk result (W.has_failed writer.new ≡ W.has_failed writer.old) }
@@ -92,12 +82,7 @@ impl Responder for Bridge {
 
     ghost breaks = { BreaksInWriting };
 
-    fn answer<W: ByteOut>(
-        &mut self,
-        alloc: Global,
-        line: Option<&[u8]>,
-        writer: &mut W,
-    ) -> Result<(), Fault> {
+    fn answer<W: ByteOut>(&mut self, alloc: Global, line: Option<&[u8]>, writer: &mut W) -> Ended {
         let read = read_line(alloc, line);
         if let Ok(ask) = &read {
             match &ask.command {
@@ -120,15 +105,12 @@ pub fn run_script_up_to<R: ByteIn, W: ByteOut>(
     reader: &mut R,
     writer: &mut W,
     reads: u64,
-) -> Result<(), Fault>
+) -> Ended
     ensures outcome { Outcome Answers BreaksInWriting reads
-        (moment R.remaining R.calls R.has_failed W.taken W.pending W.has_failed
-        bridge.old reader.old writer.old)
-        (moment R.remaining R.calls R.has_failed W.taken W.pending W.has_failed
-        bridge.new reader.new writer.new)
+        (moment R.remaining R.calls R.has_failed W.taken W.pending W.has_failed bridge.old reader.old writer.old)
+        (moment R.remaining R.calls R.has_failed W.taken W.pending W.has_failed bridge.new reader.new writer.new)
         result }
-    ensures untouched { IsErrOf result Memory
-        → (reader.new ≡ reader.old) × (writer.new ≡ writer.old) }
+    ensures untouched { IsErrOf result Memory → (reader.new ≡ reader.old) × (writer.new ≡ writer.old) }
     ensures never_exhausted { result ≢ Err Exhausted }
 {
     answer_lines(alloc, bridge, reader, writer, reads)
@@ -140,15 +122,12 @@ pub fn run_script<R: ByteIn, W: ByteOut>(
     bridge: &mut Bridge,
     reader: &mut R,
     writer: &mut W,
-) -> Result<(), Fault>
+) -> Ended
     ensures outcome { Outcome Answers BreaksInWriting most_reads
-        (moment R.remaining R.calls R.has_failed W.taken W.pending W.has_failed
-        bridge.old reader.old writer.old)
-        (moment R.remaining R.calls R.has_failed W.taken W.pending W.has_failed
-        bridge.new reader.new writer.new)
+        (moment R.remaining R.calls R.has_failed W.taken W.pending W.has_failed bridge.old reader.old writer.old)
+        (moment R.remaining R.calls R.has_failed W.taken W.pending W.has_failed bridge.new reader.new writer.new)
         result }
-    ensures untouched { IsErrOf result Memory
-        → (reader.new ≡ reader.old) × (writer.new ≡ writer.old) }
+    ensures untouched { IsErrOf result Memory → (reader.new ≡ reader.old) × (writer.new ≡ writer.old) }
     ensures never_exhausted { result ≢ Err Exhausted }
 {
     run_script_up_to(alloc, bridge, reader, writer, READS)

@@ -1,7 +1,7 @@
 use Rattle.std.proofs.Common.{◌≡◌, ◌<◌, ◌∙◌, length, take, refl, arith}
 use Rattle.std.proofs.lemmas.List.{length-take-le}
 use Rattle.tsn_bytes.specs.declared.bytes.Fault.TheVariants.{Write}
-use Rattle.tsn_serve.proofs.Ending.{begun, flush_failed, read_failed, fed, feed_broke, finish_broke, last_flush_failed, completed, broken_by}
+use Rattle.tsn_serve.proofs.Ending.{begun, flush_failed, read_failed, fed, feed_broke, finish_broke, last_flush_failed, completed, broken_by, bound_reached}
 use Rattle.tsn_serve.proofs.responder.answer_lines.Goals as goal
 
 pub reads-init : goal.reads-init
@@ -69,3 +69,8 @@ pub returns-in_default-flush-3-clause-outcome : goal.returns-in_default-flush-3-
 returns-in_default-flush-3-clause-outcome g c =
     flush_failed _ _ _ _ _ _ _ c.reads.counter c.reads.invariant c.reads.auto.counter-end refl refl refl refl
     c.in_default-flush-3.ensures.bytes c.in_default-flush-3.ensures.failed
+
+pub returns-clause-outcome : goal.returns-clause-outcome
+returns-clause-outcome g c =
+    bound_reached _ _ _ _ _ _ c.reads.counter c.reads.invariant (omega (arith, c.reads.auto.counter-end, c.reads-test.false)) refl refl refl
+    c.in-Ok-flush-3.ensures.bytes c.in-Ok-flush-3.ensures.ok c.in-Ok-flush-3.ensures.worked

@@ -21,14 +21,13 @@ lines-init g c =
 pub returns-in-Err-clause-front : goal.returns-in-Err-clause-front
 returns-in-Err-clause-front g c =
     let inv = c.lines.invariant in
+    let r = c.in-Some.line in
+    let broken = c.in-Err.ensures.broken in
     let bytes = c.args._bytes.now in
     let done = c.lines.done in
-    let r = c.in-Some.line in
-    let rs = c.next.new.self.rest.items in
-    let rest : List ℕ = inv.0.0 in
     let new = c.answer_read.new.self in
-    let broken = c.in-Err.ensures.broken in
-    let lot : IsLot (drop done bytes) (r ∷ rs) rest = subst (λ l. IsLot (drop done bytes) l rest) c.in-Some.ensures.steps.0 inv.0.1 in
+    let lot : IsLot (drop done bytes) (r ∷ c.next.new.self.rest.items) inv.0.0 =
+    subst (λ l. IsLot (drop done bytes) l inv.0.0) c.in-Some.ensures.steps.0 inv.0.1 in
     let all : (line : Option (List ℕ)) → MayRead line r.read → BreaksTalk c.lines.self line c.in-Err.fault broken.0 new =
     subst (λ (s : Caller). (line : Option (List ℕ)) → MayRead line r.read → BreaksTalk s line c.in-Err.fault broken.0 new)
     c.leave_unless.ensures broken.1 in
