@@ -1,4 +1,3 @@
-pub mod Crossing
 pub mod Acting
 pub mod Asking
 pub mod Following

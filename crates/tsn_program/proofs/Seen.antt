@@ -5,7 +5,6 @@ use Rattle.std.specs.FinMap.{get}
 use Rattle.std.proofs.lemmas.Bool.{le-leb}
 use Rattle.tsn_types.specs.declared.keys.Key.TheVariants.{Port}
 use Rattle.tsn_types.specs.declared.records.PortEntry.{PortEntry}
-use Rattle.tsn_types.specs.declared.records.Schedule.{Schedule}
 use Rattle.tsn_types.specs.declared.refusals.Field.TheVariants as fields
 use Rattle.tsn_types.specs.declared.refusals.Refusal.{Refusal}
 use Rattle.tsn_types.specs.declared.refusals.Refusal.TheVariants.{Missing, NoSession, Range}
@@ -13,7 +12,7 @@ use Rattle.tsn_types.specs.Limits.{holds_key, unless}
 use Rattle.tsn_types.specs.Refusals.{least, lesser, rank_of}
 use Rattle.tsn_edit.proofs.KeyFacts.{same_itself}
 use Rattle.tsn_edit.specs.Runs.{run}
-use Rattle.tsn_schedule.specs.Acts.{Act, Disable, Enable, is_enabled, last_instant}
+use Rattle.tsn_schedule.specs.Acts.{Enable, last_instant}
 use Rattle.tsn_journal.specs.declared.entries.Act.{Act as Asked}
 use Rattle.tsn_journal.specs.declared.entries.Act.TheVariants as asked
 use Rattle.tsn_journal.specs.declared.entries.What.TheVariants.{Acted}
@@ -119,11 +118,6 @@ applied true s new p now early seen h =
 applied false s new p now early seen h = subst (λ (x : State). IsSeenFrom x p now) (sym h) seen
 
 -- ---- looks
-
--- what can be seen from an instant on is seen later
-pub seen_later : (s : State) (p from t : ℕ) → from ≤ t → IsSeenFrom s p from → IsSeenFrom s p t
-seen_later s p from t later seen =
-    record { within = seen.within; given = seen.given; there = seen.there; last = omega (arith, later, seen.last) }
 
 -- nothing refuses a look
 pub unrefused : (s : State) (p t : ℕ) → IsSeenFrom s p t → least (states_rule s 1 (Port p) t).causes ≡ None

@@ -60,14 +60,6 @@ is_through before now setup old new s gives reads way = record {
   leads = way.leads;
 }
 
-pub stays_under_way : (before now : Option (List ℕ)) (setup : List ℕ) (new : Standing) (s : State) → IsThrough before now setup new s
-    → IsUnderWay before now setup new s
-stays_under_way before now setup new s through = record {
-  commands = through.commands;
-  fed = record { bytes = through.bytes; read = through.read; given = through.given };
-  leads = through.leads;
-}
-
 pub begins_with : (before now : Option (List ℕ)) (rs : List Recorded) (s : Standing) → IsFed before now rs s → BeginsWith before now rs
 begins_with before now rs s fed = record {
   bytes = fed.bytes;
@@ -110,11 +102,6 @@ pub reads_on : (before now after : Option (List ℕ)) (bytes : List ℕ) → Con
     → Consumes before after bytes
 reads_on before now after bytes nothing read =
     subst (Consumes before after) (append-nil bytes) (Consumes-trans before now after bytes [] read nothing)
-
-pub fed_to_end : (before now after : Option (List ℕ)) (rs : List Recorded) (s : Standing) → Consumes now after [] → IsFed before now rs s
-    → IsFed before after rs s
-fed_to_end before now after rs s nothing fed =
-    record { bytes = fed.bytes; read = reads_on before now after fed.bytes nothing fed.read; given = fed.given }
 
 pub through_to_end : (before now after : Option (List ℕ)) (setup : List ℕ) (s : Standing) (bridge : State) → IsEnded now after
     → IsThrough before now setup s bridge → IsThrough before after setup s bridge

@@ -76,26 +76,11 @@ read_fails : (before after : Option (List ℕ)) (failed : Bool) (given : Option 
     → Fails before after failed given why
 read_fails before after failed given why is h = subst (Fails before after failed given) (sym is) h
 
-memory_fails : (before after : Option (List ℕ)) (failed : Bool) (given : Option (List ℕ)) (why : StartFault) → why ≡ Memory
-    → Fails before after failed given why
-memory_fails before after failed given why is = subst (Fails before after failed given) (sym is) tt
-
 -- the reading ended behind the first line
 pub stops_reading : (before after : Option (List ℕ)) (failed : Bool) (given : Option (List ℕ)) (why : StartFault)
     → StopsReading before after failed why → Fails before after failed given why
 stops_reading before after failed given why (inl h) = read_fails before after failed given why h.0 h.1
 stops_reading before after failed given why (inr h) = stops before after failed given why h
-
--- the reading ended ahead of it
-pub stops_early : (before after : Option (List ℕ)) (failed : Bool) (given : Option (List ℕ)) (why : StartFault)
-    → ((why ≡ Read) × (failed ≡ true)) ⊎ (why ≡ Memory) → Fails before after failed given why
-stops_early before after failed given why (inl h) = read_fails before after failed given why h.0 h.1
-stops_early before after failed given why (inr h) = memory_fails before after failed given why h
-
-pub early_stop : (before after : Option (List ℕ)) (failed : Bool) (why : StartFault) → ((why ≡ Read) × (failed ≡ true)) ⊎ (why ≡ Memory)
-    → StopsReading before after failed why
-early_stop before after failed why (inl h) = inl h
-early_stop before after failed why (inr h) = inr (subst (StopsAt before after) (sym h) tt)
 
 -- no line was given, and there is nothing more to read
 pub has_no_line : (before now after : Option (List ℕ)) (old new : Standing) → IsEnded now after
