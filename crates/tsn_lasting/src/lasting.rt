@@ -21,7 +21,7 @@ use tsn_device::{Device, Failed};
 use tsn_keeping::{Clock, Keeper, Stamp};
 use tsn_replay::recorder::{Recorder, Spell};
 use tsn_replies::write_reply;
-use tsn_serve::{MAX_LINE, Responder, read_line};
+use tsn_serve::{Ended, MAX_LINE, Responder, read_line};
 use tsn_spelling::spell;
 use tsn_types::refusals::Refusal;
 
@@ -76,12 +76,7 @@ impl<C: Clock, D: Device, W: ByteOut> Model for Lasting<C, D, W> {
 
     ghost coded = { Prim.hlevel (codes, state_code) };
 
-    ghost view = { λ a. record {
-      bridge = a.recorder.bridge;
-      keeper = a.keeper;
-      replies = a.replies;
-      writer = a.writer;
-    } };
+    ghost view = { λ a. record { bridge = a.recorder.bridge; keeper = a.keeper; replies = a.replies; writer = a.writer } };
 }
 
 impl<C: Clock, D: Device, W: ByteOut> Lasting<C, D, W> {
@@ -95,8 +90,6 @@ impl<C: Clock, D: Device, W: ByteOut> Lasting<C, D, W> {
         writer: W,
     ) -> Result<Lasting<C, D, W>, AllocError>
     where
-        C: Drop,
-        D: Drop,
         W: Drop,
         ensures { IfOk result (λ l. l ≡ record {
           bridge = bridge;
@@ -232,12 +225,7 @@ impl<C: Clock, D: Device, W: ByteOut> Responder for Lasting<C, D, W> {
 
     ghost breaks = { AnswersBreak W.taken };
 
-    fn answer<V: ByteOut>(
-        &mut self,
-        alloc: Global,
-        line: Option<&[u8]>,
-        _writer: &mut V,
-    ) -> Result<(), Fault> {
+    fn answer<V: ByteOut>(&mut self, alloc: Global, line: Option<&[u8]>, _writer: &mut V) -> Ended {
         match self.answer_line(alloc, line) {
             Ok(()) => Ok(()),
             Err(fault) => {
