@@ -7,6 +7,7 @@ ghost use Rattle.tsn_wire.specs.Ranges.{greatest_after, longest_frame, frame_of_
 ghost use Rattle.tsn_wire.specs.Words.{edit_command};
 
 use crate::drafts::{BatchDraft, CommandDraft, EditDraft, FrameDraft};
+use crate::words::{Act, Look, Put};
 use std::alloc::Global;
 use tsn_bridge::command::Command;
 use tsn_chain::frame::Frame;
@@ -63,7 +64,10 @@ fn edit_of_draft(alloc: Global, draft: &EditDraft) -> Result<Edit, Unread>
         } => {
             let key = key(*draft)?;
             let value = record_of(alloc, value)?;
-            Ok(put.edit(key, value))
+            Ok(match put {
+                Put::Create => Edit::Create(key, value),
+                Put::Replace => Edit::Replace(key, value),
+            })
         }
         EditDraft::Remove { key: draft } => Ok(Edit::Remove(key(*draft)?)),
     }
@@ -125,7 +129,11 @@ pub fn command_of_draft(alloc: Global, wanted: &CommandDraft) -> Result<Command,
         } => {
             let key = key(*draft)?;
             let now = instant(*now, Field::Now)?;
-            Ok(act.command(key, now))
+            Ok(match act {
+                Act::Enable => Command::Enable { key, now },
+                Act::Disable => Command::Disable { key, now },
+                Act::Apply => Command::Apply { key, now },
+            })
         }
         CommandDraft::Frame { frame: draft, now } => {
             let frame = frame_of_draft(*draft)?;
@@ -137,7 +145,13 @@ pub fn command_of_draft(alloc: Global, wanted: &CommandDraft) -> Result<Command,
             let at = instant(*at, Field::At)?;
             Ok(Command::States { key, at })
         }
-        CommandDraft::Look { look, key: draft } => Ok(look.command(key(*draft)?)),
+        CommandDraft::Look { look, key: draft } => {
+            let key = key(*draft)?;
+            Ok(match look {
+                Look::Counters => Command::Counters { key },
+                Look::Show => Command::Show { key },
+            })
+        }
         CommandDraft::List { kind } => Ok(Command::List { kind: *kind }),
         CommandDraft::Since { after: number } => Ok(Command::Since {
             after: entry(*number, Field::After)?,

@@ -1,16 +1,12 @@
 //! The words of commands. Those stand together whose lines have the same members.
 ghost use Rattle.std.specs.Prelude.{◌≡◌, ◌++◌, IfSome};
 ghost use Rattle.serde_json.specs.Data.{string};
-ghost use Rattle.tsn_wire.specs.Words.{act_command, bare_command, look_command, put_edit, word_of, word_text};
+ghost use Rattle.tsn_wire.specs.Words.{bare_command, word_of, word_text};
 
 use crate::cursor::Cursor;
 use crate::values::Scanned;
 use std::alloc::Global;
 use tsn_bridge::command::Command;
-use tsn_edit::Edit;
-use tsn_types::keys::Key;
-use tsn_types::numbers::Instant;
-use tsn_types::records::Record;
 
 /// Edits that put a record at a key.
 #[derive(Clone, Copy, Debug, PartialEq, Eq)]
@@ -19,56 +15,12 @@ pub enum Put {
     Replace,
 }
 
-impl Put {
-    /// The edit of a batch that puts the record so.
-    pub fn edit(self, key: Key, value: Record) -> Edit
-        ensures { result ≡ put_edit self key value }
-    {
-        match self {
-            Put::Create => Edit::Create(key, value),
-            Put::Replace => Edit::Replace(key, value),
-        }
-    }
-}
-
 /// Acts on a gate control list, at an instant.
 #[derive(Clone, Copy, Debug, PartialEq, Eq)]
 pub enum Act {
     Enable,
     Disable,
     Apply,
-}
-
-impl Act {
-    /// The command that acts so.
-    pub fn command(self, key: Key, now: Instant) -> Command
-        ensures { result ≡ act_command self key now }
-    {
-        match self {
-            Act::Enable => Command::Enable { key, now },
-            Act::Disable => Command::Disable { key, now },
-            Act::Apply => Command::Apply { key, now },
-        }
-    }
-}
-
-/// Looks at what stands at a key.
-#[derive(Clone, Copy, Debug, PartialEq, Eq)]
-pub enum Look {
-    Counters,
-    Show,
-}
-
-impl Look {
-    /// The command that looks so.
-    pub fn command(self, key: Key) -> Command
-        ensures { result ≡ look_command self key }
-    {
-        match self {
-            Look::Counters => Command::Counters { key },
-            Look::Show => Command::Show { key },
-        }
-    }
 }
 
 /// Commands that name nothing.
@@ -113,6 +65,13 @@ pub enum Word {
     Since,
     Settle,
     Bare(Bare),
+}
+
+/// Looks at what stands at a key.
+#[derive(Clone, Copy, Debug, PartialEq, Eq)]
+pub enum Look {
+    Counters,
+    Show,
 }
 
 impl Word {
