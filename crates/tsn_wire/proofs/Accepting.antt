@@ -76,6 +76,10 @@ record IsOf (word : List ℕ) (s : ℕ) (d : Data) : Type 0 where
 abbrev IsValue : ℕ → Data → Command → Type 0
 IsValue s d c = MayBeAsked s c × (d ≡ value_of s c)
 
+-- a value that asks for what a line says
+abbrev SaysAsk : Data → Ask → Type 0
+SaysAsk d line = IsValue line.session d line.command
+
 named_by_key : (word : List ℕ) (s : ℕ) (d : Data) (q : KeyDraft) (k : Key) (u : Unit {0}) → IsOf word s d → has_members 3 d ≡ Ok u
     → key_at d ≡ Ok q → key q ≡ Ok k → d ≡ keyed_data word s (key_text k)
 named_by_key word s d q k u of count at_key range =
@@ -350,10 +354,6 @@ command_known words.List s d draft c of shape range = list_known s d draft c of 
 command_known words.Since s d draft c of shape range = since_known s d draft c of shape range
 command_known words.Settle s d draft c of shape range = settle_known s d draft c of shape range
 command_known (words.Bare b) s d draft c of shape range = bare_asked b s d draft c of shape range
-
--- a value that asks for what a line says
-abbrev SaysAsk : Data → Ask → Type 0
-SaysAsk d line = IsValue line.session d line.command
 
 bare_hello_known : (d : Data) (u : Unit {0}) (line : Ask) → IsOrdered d → get (codes "do") d ≡ Some (string (codes "hello"))
     → has_members 1 d ≡ Ok u → line_of_draft Hello ≡ Ok line → SaysAsk d line

@@ -52,19 +52,12 @@ listed_at name d = do
 
 -- so many members, of which two are `key` and `record`, a record of the key's kind
 unfoldable pub keyed_record : ℕ → Data → Result (KeyDraft × RecordDraft) Unread
-keyed_record n d = do
-  _ ← has_members n d
-  key ← key_at d
-  value ← value_at (codes "record") d
-  r ← record_shape as_json key.kind value
-  Ok (key, r)
+keyed_record n d =
+    has_members n d >>= λ _. key_at d >>= λ key. value_at (codes "record") d >>= λ value. record_shape as_json key.kind value >>= λ r. Ok (key, r)
 
 -- so many members, of which one is `key`, of a kind that can be removed
 unfoldable pub removed_key : ℕ → Data → Result KeyDraft Unread
-removed_key n d = do
-  _ ← has_members n d
-  key ← key_at d
-  removable key key.kind
+removed_key n d = has_members n d >>= λ _. key_at d >>= λ key. removable key key.kind
 
 -- an edit, with so many members beside its own
 abbrev pub edited_shape : ℕ → Word → Data → Result EditDraft Unread

@@ -117,15 +117,15 @@ fn are_distinct(edits: &[EditDraft]) -> bool
 #[derive(Debug, Drop)]
 pub enum CommandDraft {
     Edit { edit: EditDraft },
-    Batch { batch: BatchDraft },
-    Settle { upto: u64 },
     Act { act: Act, key: KeyDraft, now: u64 },
+    Look { look: Look, key: KeyDraft },
+    Bare { bare: Bare },
+    Batch { batch: BatchDraft },
     Frame { frame: FrameDraft, now: u64 },
     States { key: KeyDraft, at: u64 },
-    Look { look: Look, key: KeyDraft },
     List { kind: Kind },
     Since { after: u64 },
-    Bare { bare: Bare },
+    Settle { upto: u64 },
 }
 
 /// The name of a hello: what may be one, or a text that may not.

@@ -8,6 +8,7 @@ ghost use Rattle.std.specs.Prelude.{◌≡◌, ◌++◌, IfSome, codes, decimal}
 ghost use Rattle.tsn_wire.specs.Reading.{line_of_draft, reading};
 ghost use Rattle.tsn_wire.specs.Spelled.{IsSmall, Spells};
 ghost use Rattle.tsn_wire.specs.SpelledFront.{SpellsFront, SpellsStates};
+ghost use Rattle.tsn_wire.specs.Words.{look_word};
 
 use crate::any_line::any_draft;
 use crate::cursor::Cursor;
@@ -51,6 +52,17 @@ fn undo(text: &mut Cursor<'_>) -> Option<CommandDraft>
     Some(CommandDraft::Bare { bare: Bare::Undo })
 }
 
+// The word of a look at a key, up to the key.
+fn key_look(text: &mut Cursor<'_>) -> Option<Look>
+    ensures { IfSome result (λ look. text.old ≡ look_word look ++ (codes "\",\"key\":\"" ++ text.new)) }
+{
+    if text.take("show\",\"key\":\"") {
+        return Some(Look::Show);
+    }
+    text.expect("counters\",\"key\":\"")?;
+    Some(Look::Counters)
+}
+
 fn look(alloc: Global, text: &mut Cursor<'_>) -> Option<CommandDraft>
     ensures { IfSome result (λ command. Spells text.old command text.new) }
 {
@@ -60,23 +72,11 @@ fn look(alloc: Global, text: &mut Cursor<'_>) -> Option<CommandDraft>
             let batch = batch(alloc, text)?;
             Some(CommandDraft::Batch { batch })
         }
-        (b'h', _) => {
-            text.expect("show\",\"key\":\"")?;
+        (b'h', _) | (b'o', _) => {
+            let look = key_look(text)?;
             let key = key(text)?;
             text.expect("\"")?;
-            Some(CommandDraft::Look {
-                look: Look::Show,
-                key,
-            })
-        }
-        (b'o', _) => {
-            text.expect("counters\",\"key\":\"")?;
-            let key = key(text)?;
-            text.expect("\"")?;
-            Some(CommandDraft::Look {
-                look: Look::Counters,
-                key,
-            })
+            Some(CommandDraft::Look { look, key })
         }
         (b'i', _) => {
             text.expect("list\",\"kind\":\"")?;
