@@ -120,11 +120,6 @@ applied false s new p now early seen h = subst (λ (x : State). IsSeenFrom x p n
 
 -- ---- looks
 
--- what can be seen from an instant on is seen later
-pub seen_later : (s : State) (p from t : ℕ) → from ≤ t → IsSeenFrom s p from → IsSeenFrom s p t
-seen_later s p from t later seen =
-    record { within = seen.within; given = seen.given; there = seen.there; last = omega (arith, later, seen.last) }
-
 -- nothing refuses a look
 pub unrefused : (s : State) (p t : ℕ) → IsSeenFrom s p t → least (states_rule s 1 (Port p) t).causes ≡ None
 unrefused s p t seen = rw (seen.within, seen.given, seen.there, le-leb (last_at s.book (Port p)) t seen.last) refl
