@@ -58,7 +58,7 @@ pub enum Heard {
 /// Who records commands in a text that threads share. It takes all memory that it ever needs when it is made, that of
 /// the longest line.
 #[derive(Drop)]
-pub struct Clerk<'a, W: Wait, C: Clock, D: Device, R: Naming, K: Naming + Ahead> {
+pub struct Clerk<'a, W: Wait, C: Clock, D: Device, R: Naming, K: Ahead> {
     rt: &'a W,
     commit: &'a Commit<C, D, R, K>,
     heard: Heard,
@@ -105,14 +105,7 @@ fn instant_in(reply: &Reply) -> Option<Instant>
     }
 }
 
-impl<'a, W: Wait, C: Clock + Drop, D: Device + Drop, R: Naming, K: Naming + Ahead> Clerk<
-    'a,
-    W,
-    C,
-    D,
-    R,
-    K,
-> {
+impl<'a, W: Wait, C: Clock, D: Device, R: Naming, K: Ahead> Clerk<'a, W, C, D, R, K> {
     pub fn new(
         alloc: Global,
         rt: &'a W,
@@ -180,7 +173,7 @@ impl<'a, W: Wait, C: Clock + Drop, D: Device + Drop, R: Naming, K: Naming + Ahea
     }
 }
 
-impl<'a, W: Wait, C: Clock + Drop, D: Device + Drop, R: Naming, K: Naming + Ahead> Witness<Bridge>
+impl<'a, W: Wait, C: Clock, D: Device, R: Naming, K: Ahead> Witness<Bridge>
     for Clerk<'a, W, C, D, R, K> {
     ghost use Rattle.tsn_clerk.specs.Noting.{IsHeard, IsRecorded};
 

@@ -30,21 +30,13 @@ pub trait Stop {
 
 /// Who serves each connection by a talk over one text of records, and ends the service where the journal fails.
 #[derive(Drop)]
-pub struct LastingHost<'a, W: Wait, C: Clock, D: Device, R: Naming, K: Naming + Ahead, S: Stop> {
+pub struct LastingHost<'a, W: Wait, C: Clock, D: Device, R: Naming, K: Ahead, S: Stop> {
     pub rt: &'a W,
     pub commit: &'a Commit<C, D, R, K>,
     pub service: &'a S,
 }
 
-impl<
-    'a,
-    W: Wait,
-    C: Clock + Drop,
-    D: Device + Drop,
-    R: Naming,
-    K: Naming + Ahead,
-    S: Stop,
-> LastingHost<'a, W, C, D, R, K, S> {
+impl<W: Wait, C: Clock, D: Device, R: Naming, K: Ahead, S: Stop> LastingHost<'_, W, C, D, R, K, S> {
     // Serves one connection by a talk.
     #[tactic(auto, using(tsn_serve::proofs::Going::sat_still, crate::proofs::Going::served, crate::proofs::Going::none_held))]
     fn talk<I: ByteIn, O: ByteOut + Drop>(
@@ -78,7 +70,7 @@ impl<
     }
 }
 
-impl<'a, W: Wait, C: Clock + Drop, D: Device + Drop, R: Naming, K: Naming + Ahead, S: Stop> Host
+impl<'a, W: Wait, C: Clock, D: Device, R: Naming, K: Ahead, S: Stop> Host
     for LastingHost<'a, W, C, D, R, K, S> {
     /// Where no session is left for a worker, the service is stopped.
     fn start<Q: Wait>(

@@ -18,7 +18,7 @@ use tsn_history::{Front, Naming};
 use tsn_keeping::Clock;
 use tsn_lasting::Backlog;
 use tsn_replies::write_reply;
-use tsn_serve::{Connection, Free, Responder};
+use tsn_serve::{Connection, Ended, Free, Responder};
 
 /// Why a connection ended before its input did.
 #[derive(Clone, Copy, Debug, PartialEq, Eq)]
@@ -35,15 +35,7 @@ pub enum TalkFault {
 
 /// One end of a connection, the text of records that all share, and the writer of its replies, ahead of which they
 /// wait.
-pub struct Talk<
-    'a,
-    W: Wait,
-    C: Clock + Drop,
-    D: Device + Drop,
-    R: Naming,
-    K: Naming + Ahead,
-    O: ByteOut,
-> {
+pub struct Talk<'a, W: Wait, C: Clock, D: Device, R: Naming, K: Ahead, O: ByteOut> {
     end: Connection<'a, W, Free, Clerk<'a, W, C, D, R, K>>,
     rt: &'a W,
     commit: &'a Commit<C, D, R, K>,
@@ -54,7 +46,7 @@ pub struct Talk<
     fault: TalkFault,
 }
 
-impl<'a, W: Wait, C: Clock + Drop, D: Device + Drop, R: Naming, K: Naming + Ahead, O: ByteOut> Model
+impl<'a, W: Wait, C: Clock, D: Device, R: Naming, K: Ahead, O: ByteOut> Model
     for Talk<'a, W, C, D, R, K, O> {
     ghost use Rattle.std.specs.Coded.{codes};
     ghost use Rattle.tsn_serve.specs.Held.{caller_code};
@@ -64,24 +56,10 @@ impl<'a, W: Wait, C: Clock + Drop, D: Device + Drop, R: Naming, K: Naming + Ahea
 
     ghost coded = { Prim.hlevel (codes, caller_code) };
 
-    ghost view = { λ t. record {
-      caller = t.end;
-      due = t.due;
-      kept = t.kept;
-      replies = t.replies;
-      writer = t.writer;
-    } };
+    ghost view = { λ t. record { caller = t.end; due = t.due; kept = t.kept; replies = t.replies; writer = t.writer } };
 }
 
-impl<'a, W: Wait, C: Clock + Drop, D: Device + Drop, R: Naming, K: Naming + Ahead, O: ByteOut> Talk<
-    'a,
-    W,
-    C,
-    D,
-    R,
-    K,
-    O,
-> {
+impl<'a, W: Wait, C: Clock, D: Device, R: Naming, K: Ahead, O: ByteOut> Talk<'a, W, C, D, R, K, O> {
     /// Nothing is due yet, and nothing waits.
     pub fn new(
         end: Connection<'a, W, Free, Clerk<'a, W, C, D, R, K>>,
@@ -240,25 +218,13 @@ impl<'a, W: Wait, C: Clock + Drop, D: Device + Drop, R: Naming, K: Naming + Ahea
     }
 }
 
-impl<
-    'a,
-    W: Wait,
-    C: Clock + Drop,
-    D: Device + Drop,
-    R: Naming,
-    K: Naming + Ahead,
-    O: ByteOut,
-> Responder for Talk<'a, W, C, D, R, K, O> {
+impl<'a, W: Wait, C: Clock, D: Device, R: Naming, K: Ahead, O: ByteOut> Responder
+    for Talk<'a, W, C, D, R, K, O> {
     ghost answers = { Answers O.taken };
 
     ghost breaks = { AnswersBreak O.taken };
 
-    fn answer<V: ByteOut>(
-        &mut self,
-        alloc: Global,
-        line: Option<&[u8]>,
-        _writer: &mut V,
-    ) -> Result<(), Fault> {
+    fn answer<V: ByteOut>(&mut self, alloc: Global, line: Option<&[u8]>, _writer: &mut V) -> Ended {
         match self.answer_line(alloc, line) {
             Ok(()) => Ok(()),
             Err(fault) => {

@@ -22,15 +22,7 @@ const READS: u64 = 4_294_967_296;
 
 /// Answers each line of the input, with at most 2^32 reads. Before each read and at the end all that is due is kept,
 /// and then all replies are handed on.
-pub fn talk_on<
-    W: Wait,
-    C: Clock + Drop,
-    D: Device + Drop,
-    R: Naming,
-    K: Naming + Ahead,
-    O: ByteOut,
-    I: ByteIn,
->(
+pub fn talk_on<W: Wait, C: Clock, D: Device, R: Naming, K: Ahead, O: ByteOut, I: ByteIn>(
     alloc: Global,
     talk: &mut Talk<'_, W, C, D, R, K, O>,
     line: &mut LineBuffer,
@@ -55,14 +47,7 @@ pub fn talk_on<
 }
 
 // Answers the lines that end in a piece of the input; then all that is due is kept, and their replies are handed on.
-fn answer_window<
-    W: Wait,
-    C: Clock + Drop,
-    D: Device + Drop,
-    R: Naming,
-    K: Naming + Ahead,
-    O: ByteOut,
->(
+fn answer_window<W: Wait, C: Clock, D: Device, R: Naming, K: Ahead, O: ByteOut>(
     alloc: Global,
     talk: &mut Talk<'_, W, C, D, R, K, O>,
     line: &mut LineBuffer,
@@ -79,7 +64,7 @@ fn answer_window<
 }
 
 // Answers what stands behind the last line feed, at the end of the input; then the same.
-fn end<W: Wait, C: Clock + Drop, D: Device + Drop, R: Naming, K: Naming + Ahead, O: ByteOut>(
+fn end<W: Wait, C: Clock, D: Device, R: Naming, K: Ahead, O: ByteOut>(
     alloc: Global,
     talk: &mut Talk<'_, W, C, D, R, K, O>,
     line: &LineBuffer,

@@ -10,7 +10,7 @@ use std::alloc::Global;
 use std::marker::Model;
 use tsn_bytes::{ByteIn, ByteOut, Fault, put_all};
 use tsn_replies::ShortText;
-use tsn_serve::{Responder, answer_lines, read_line};
+use tsn_serve::{Ended, Responder, answer_lines, read_line};
 use tsn_types::refusals::Refusal;
 use tsn_where::command_spot;
 
@@ -90,12 +90,7 @@ impl Responder for LineLook {
 
     ghost breaks = { BreaksLooking };
 
-    fn answer<W: ByteOut>(
-        &mut self,
-        alloc: Global,
-        line: Option<&[u8]>,
-        writer: &mut W,
-    ) -> Result<(), Fault> {
+    fn answer<W: ByteOut>(&mut self, alloc: Global, line: Option<&[u8]>, writer: &mut W) -> Ended {
         if self.lines == u64::MAX {
             return Err(Fault::Exhausted);
         }

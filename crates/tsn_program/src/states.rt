@@ -118,10 +118,7 @@ fn apply_listed(
         return Ok(());
     }
     let key = Key::Port(port);
-    match take(bridge, 1, Command::Apply { key, now }) {
-        Ok(()) => Ok(()),
-        Err(why) => Err(why),
-    }
+    take(bridge, 1, Command::Apply { key, now })
 }
 
 /// Enables the port at the instant, for a first session, and applies its list then, where it has an entry.

@@ -39,12 +39,17 @@ fn session_in(alloc: Global, reply: &[u8]) -> Result<Vec<u8>, AllocError> {
     Ok(digits)
 }
 
-/// A command line that ends with the member of its session.
-fn line_of(alloc: Global, begin: &[u8], session: &[u8]) -> Result<Vec<u8>, AllocError> {
+/// The reply to a command line that ends with the member of its session.
+fn ask_as<S: Read + Write>(
+    alloc: Global,
+    stream: &mut S,
+    begin: &[u8],
+    session: &[u8],
+) -> io::Result<Vec<u8>> {
     let mut line = Vec::from_slice(alloc, begin)?;
     line.extend_from_slice(session)?;
     line.extend_from_slice(b"}\n")?;
-    Ok(line)
+    ask(alloc, stream, line.as_slice())
 }
 
 /// Enables port 1 at 0 and applies its list at 2500, as a session of its own, and gives both replies.
@@ -57,17 +62,10 @@ pub fn enable_and_apply<R: Net<Stream = TcpStream>>(
     stream.set_read_timeout(Some(Duration::from_secs(10)))?;
     let hello = ask(alloc, &mut stream, b"{\"do\":\"hello\"}\n")?;
     let session = session_in(alloc, hello.as_slice())?;
-    let enable = line_of(
-        alloc,
-        b"{\"do\":\"enable\",\"key\":\"port 1\",\"now\":0,\"s\":",
-        session.as_slice(),
-    )?;
-    let enabled = ask(alloc, &mut stream, enable.as_slice())?;
-    let apply = line_of(
-        alloc,
-        b"{\"do\":\"apply\",\"key\":\"port 1\",\"now\":2500,\"s\":",
-        session.as_slice(),
-    )?;
-    let applied = ask(alloc, &mut stream, apply.as_slice())?;
-    Ok((enabled, applied))
+    let enable = b"{\"do\":\"enable\",\"key\":\"port 1\",\"now\":0,\"s\":";
+    let apply = b"{\"do\":\"apply\",\"key\":\"port 1\",\"now\":2500,\"s\":";
+    Ok((
+        ask_as(alloc, &mut stream, enable, session.as_slice())?,
+        ask_as(alloc, &mut stream, apply, session.as_slice())?,
+    ))
 }

@@ -8,7 +8,7 @@ ghost use Rattle.tsn_bridge.specs.Reached.{IsReached};
 use crate::lines::NewText;
 use crate::progress::Progress;
 use jiff::Timestamp;
-use std::alloc::Global;
+use std::alloc::{AllocError, Global};
 use std::fs::File;
 use std::io::ErrorKind;
 use std::rt::Files;
@@ -21,6 +21,7 @@ use tsn_program::{Failure, fail};
 use tsn_recorded::End;
 use tsn_resuming::{Resumed, StartFault, Unwatched, Watcher, resume};
 use tsn_types::keys::Key;
+use tsn_types::refusals::Refusal;
 use tsn_words::{Kept, Syncs};
 
 /// What ends a run over a journal with status 1, as its line says.
@@ -43,6 +44,24 @@ pub(crate) enum JournalFault {
 
 /// Memory was wanted and not there.
 pub(crate) const NO_MEMORY: JournalFault = JournalFault::Failed(Failure::Fault(Fault::Memory));
+
+impl From<AllocError> for JournalFault {
+    fn from(_: AllocError) -> JournalFault {
+        NO_MEMORY
+    }
+}
+
+impl From<Refusal> for JournalFault {
+    fn from(why: Refusal) -> JournalFault {
+        JournalFault::Failed(Failure::Refused(why))
+    }
+}
+
+impl From<StartFault> for JournalFault {
+    fn from(fault: StartFault) -> JournalFault {
+        JournalFault::Start(fault)
+    }
+}
 
 impl From<OpenFault> for JournalFault {
     fn from(fault: OpenFault) -> JournalFault {
@@ -71,7 +90,7 @@ pub(crate) fn error_of(number: i32) -> Option<io::Error> {
 }
 
 /// Says a line on standard error, where there is memory for it and it takes one; else nothing is left to do.
-pub(crate) fn say<E: ByteOut>(errors: &mut E, line: Result<String, std::alloc::AllocError>) {
+pub(crate) fn say<E: ByteOut>(errors: &mut E, line: Result<String, AllocError>) {
     if let Ok(line) = line {
         let _ = put_all(errors, line.as_bytes());
     }
@@ -220,29 +239,14 @@ fn open_or_make<R: Files<File = File> + AllocGlobal + time::Clock>(
     }
 }
 
-// The bridge that goes on from what the reader gives, of which each line is told to the watcher.
-fn resume_with<I: ByteIn, W: Watcher>(
-    alloc: Global,
-    setup: Option<&[u8]>,
-    file: &mut I,
-    watcher: &mut W,
-) -> Result<Resumed, JournalFault>
-    ensures { IfOk result (λ resumed. IsReached resumed.bridge) }
-{
-    match resume(alloc, file, setup, watcher) {
-        Ok(resumed) => Ok(resumed),
-        Err(fault) => Err(JournalFault::Start(fault)),
-    }
-}
-
 /// The bridge that goes on from the file, of which each line is told to the watcher.
 pub(crate) fn resume_from<R: Files<File = File> + AllocGlobal, W: Watcher>(
     rt: &R,
     path: &str,
     watcher: &mut W,
 ) -> Result<Resumed, JournalFault> {
-    let reading = fs::open(rt, path)?;
-    resume_with(rt.alloc(), None, &mut StdIo::new(reading), watcher)
+    let mut file = StdIo::new(fs::open(rt, path)?);
+    Ok(resume(rt.alloc(), &mut file, None, watcher)?)
 }
 
 // The bridge that goes on from the file at a start, which says how far it is where it takes long.
@@ -254,9 +258,9 @@ fn resume_at_start<R: Files<File = File> + AllocGlobal + time::Clock, E: ByteOut
 ) -> Result<Resumed, JournalFault>
     ensures { IfOk result (λ resumed. IsReached resumed.bridge) }
 {
-    let reading = fs::open(rt, path)?;
-    let mut file = Progress::new(rt, rt.alloc(), StdIo::new(reading), errors);
-    resume_with(rt.alloc(), setup, &mut file, &mut Unwatched)
+    let reading = StdIo::new(fs::open(rt, path)?);
+    let mut file = Progress::new(rt, rt.alloc(), reading, errors);
+    Ok(resume(rt.alloc(), &mut file, setup, &mut Unwatched)?)
 }
 
 // Opens a journal and goes on from it. An unfinished line is moved out of its way, and that is told.
@@ -287,7 +291,7 @@ pub(crate) fn start<R: Files<File = File> + AllocGlobal + time::Clock, E: ByteOu
 }
 
 // Answers the script on the reader, over the bridge that goes on and the file that keeps it.
-fn answer<D: DeviceOverFile + Drop, R: time::Clock, I: ByteIn, O: ByteOut + Drop, E: ByteOut>(
+fn answer<D: DeviceOverFile, R: time::Clock, I: ByteIn, O: ByteOut + Drop, E: ByteOut>(
     rt: &R,
     alloc: Global,
     started: (File, Resumed),
@@ -296,13 +300,9 @@ fn answer<D: DeviceOverFile + Drop, R: time::Clock, I: ByteIn, O: ByteOut + Drop
     errors: &mut E,
 ) -> Result<(), JournalFault> {
     let (file, resumed) = started;
-    let Ok(keeper) = Keeper::new(alloc, D::over(file), resumed.chain) else {
-        return Err(NO_MEMORY);
-    };
+    let keeper = Keeper::new(alloc, D::over(file), resumed.chain)?;
     let clock = WallClock::new(rt, alloc);
-    let Ok(mut lasting) = Lasting::new(alloc, resumed.bridge, keeper, clock, output) else {
-        return Err(NO_MEMORY);
-    };
+    let mut lasting = Lasting::new(alloc, resumed.bridge, keeper, clock, output)?;
     match run_lasting(alloc, &mut lasting, input) {
         Ok(()) => Ok(()),
         Err(LastingFault::Read) => Err(JournalFault::Failed(Failure::Fault(Fault::Read))),

@@ -1,10 +1,10 @@
 //! The text of a new journal, before it is a file.
-use crate::journal::{JournalFault, NO_MEMORY, stamp_of_now};
+use crate::journal::{JournalFault, stamp_of_now};
 use std::alloc::Global;
 use std::time;
 use tsn_bridge::command::{Ask, Command};
 use tsn_lasting::Stamp;
-use tsn_program::{Failure, bridge_of};
+use tsn_program::bridge_of;
 use tsn_recorded::Chain;
 use tsn_resuming::first_command;
 use tsn_spelling::spell;
@@ -25,13 +25,8 @@ impl NewText {
         alloc: Global,
         setup: &[u8],
     ) -> Result<NewText, JournalFault> {
-        if let Err(why) = bridge_of(alloc, setup) {
-            return Err(JournalFault::Failed(Failure::Refused(why)));
-        }
-        let command = match first_command(alloc, setup) {
-            Ok(command) => command,
-            Err(why) => return Err(JournalFault::Failed(Failure::Refused(why))),
-        };
+        bridge_of(alloc, setup)?;
+        let command = first_command(alloc, setup)?;
         let mut text = NewText {
             alloc,
             bytes: Vec::new(alloc),
@@ -49,21 +44,16 @@ impl NewText {
 
     // Puts the line of a command behind the others.
     fn put(&mut self, command: &[u8]) -> Result<(), JournalFault> {
-        match self
-            .chain
-            .append(&mut self.bytes, self.stamp.bytes(), command)
-        {
-            Ok(()) => Ok(()),
-            Err(_) => Err(NO_MEMORY),
-        }
+        Ok(
+            self.chain
+                .append(&mut self.bytes, self.stamp.bytes(), command)?,
+        )
     }
 
     /// Puts the line of an ask behind the others.
     pub(crate) fn record(&mut self, ask: &Ask) -> Result<(), JournalFault> {
         let mut command = Vec::new(self.alloc);
-        if spell(ask, &mut command).is_err() {
-            return Err(NO_MEMORY);
-        }
+        spell(ask, &mut command)?;
         self.put(&command)
     }
 }

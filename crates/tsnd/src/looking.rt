@@ -1,7 +1,7 @@
 //! A look at a journal file: what is in it, its entries with their times, what one of them changed, the configuration
 //! at its end; and the mending of one.
 use crate::beginning::begin;
-use crate::journal::{JournalFault, NO_MEMORY, fail_over, resume_from};
+use crate::journal::{JournalFault, fail_over, resume_from};
 use std::alloc::{AllocError, Global};
 use std::fs::File;
 use std::rt::Files;
@@ -10,7 +10,7 @@ use tsn_bridge::bridge::Bridge;
 use tsn_bytes::{ByteOut, Fault, put_all};
 use tsn_device::{move_end, open};
 use tsn_edit::Part;
-use tsn_export::{SetupText, export_setup};
+use tsn_export::export_setup;
 use tsn_program::Failure;
 use tsn_recorded::End;
 use tsn_replies::{lent, write_kept, write_lent};
@@ -109,16 +109,22 @@ pub(crate) fn faultless(end: End) -> Result<(), JournalFault> {
     }
 }
 
-fn look_at_all<R: Files<File = File> + AllocGlobal, W: ByteOut>(
+// Looks at where all of it leads: at an entry, at the setup, or at all.
+fn look_at_end<R: Files<File = File> + AllocGlobal, W: ByteOut>(
     rt: &R,
     path: &str,
+    look: &Look,
     writer: &mut W,
 ) -> Result<(), JournalFault> {
     let resumed = resume_from(rt, path, &mut Unwatched)?;
-    let Ok(text) = summary(rt.alloc(), &resumed) else {
-        return Err(NO_MEMORY);
-    };
-    show(writer, text.as_bytes())?;
+    match look {
+        Look::Diff(number) => write_entry(writer, &resumed, *number)?,
+        Look::Setup => {
+            let setup = export_setup(rt.alloc(), resumed.bridge.config())?;
+            show(writer, setup.as_bytes())?;
+        }
+        _ => show(writer, summary(rt.alloc(), &resumed)?.as_bytes())?,
+    }
     faultless(resumed.end)
 }
 
@@ -155,13 +161,12 @@ fn write_parts<W: ByteOut>(writer: &mut W, parts: &[Part]) -> Result<(), Fault> 
     Ok(())
 }
 
-fn look_at_entry<R: Files<File = File> + AllocGlobal, W: ByteOut>(
-    rt: &R,
-    path: &str,
-    number: u64,
+// Writes what the entry of this number changed.
+fn write_entry<W: ByteOut>(
     writer: &mut W,
+    resumed: &Resumed,
+    number: u64,
 ) -> Result<(), JournalFault> {
-    let resumed = resume_from(rt, path, &mut Unwatched)?;
     let Some(entry) = resumed.bridge.journal().entry(number) else {
         return Err(JournalFault::NoEntry(number));
     };
@@ -170,27 +175,7 @@ fn look_at_entry<R: Files<File = File> + AllocGlobal, W: ByteOut>(
             return Err(JournalFault::Failed(Failure::Fault(Fault::Write)));
         }
     }
-    show(writer, b"")?;
-    faultless(resumed.end)
-}
-
-// The configuration at the end, as a setup.
-fn setup_at_end(alloc: Global, resumed: &Resumed) -> Result<SetupText, JournalFault> {
-    match export_setup(alloc, resumed.bridge.config()) {
-        Ok(text) => Ok(text),
-        Err(why) => Err(JournalFault::Failed(Failure::Refused(why))),
-    }
-}
-
-fn look_at_setup<R: Files<File = File> + AllocGlobal, W: ByteOut>(
-    rt: &R,
-    path: &str,
-    writer: &mut W,
-) -> Result<(), JournalFault> {
-    let resumed = resume_from(rt, path, &mut Unwatched)?;
-    let setup = setup_at_end(rt.alloc(), &resumed)?;
-    show(writer, setup.as_bytes())?;
-    faultless(resumed.end)
+    show(writer, b"")
 }
 
 // Moves what is behind the last line that verifies to the side, and says how many lines stay.
@@ -206,9 +191,7 @@ fn mend<R: Files<File = File> + AllocGlobal, W: ByteOut>(
     }
     move_end(rt, &mut file, path, resumed.good)?;
     let lines = resumed.lines;
-    let Ok(text) = format!(in rt.alloc(); "{lines} lines stay\n") else {
-        return Err(NO_MEMORY);
-    };
+    let text = format!(in rt.alloc(); "{lines} lines stay\n")?;
     show(writer, text.as_bytes())
 }
 
@@ -221,10 +204,8 @@ pub(crate) fn look_at<R: Files<File = File> + AllocGlobal + time::Clock, O: Byte
     errors: &mut E,
 ) -> u8 {
     let outcome = match look {
-        Look::Whole => look_at_all(rt, path, output),
+        Look::Whole | Look::Diff(_) | Look::Setup => look_at_end(rt, path, look, output),
         Look::Since(after) => look_at_entries(rt, path, *after, output),
-        Look::Diff(number) => look_at_entry(rt, path, *number, output),
-        Look::Setup => look_at_setup(rt, path, output),
         Look::Begin(new) => return begin(rt, path, new.as_str(), output, errors),
         Look::Mend => mend(rt, path, output),
     };

@@ -84,7 +84,7 @@ fn fault_of(fault: LastingServerFault, why: &AtomicI32) -> JournalFault {
 
 // Serves the source's connections over the bridge that goes on and the file that keeps it.
 fn serve_on<
-    D: DeviceOverFile + Drop + Send,
+    D: DeviceOverFile + Send,
     R: time::Clock + Wait + Threads + Sync,
     S: Source + Stop + Sync,
     O: ByteOut,
@@ -104,9 +104,7 @@ fn serve_on<
         device: D::over(file),
         why: &why,
     };
-    let Ok(keeper) = Keeper::new(alloc, device, resumed.chain) else {
-        return Err(NO_MEMORY);
-    };
+    let keeper = Keeper::new(alloc, device, resumed.chain)?;
     let clock = WallClock::new(rt, alloc);
     let at = last_instant(&serving);
     let ended = serve_lasting::<_, _, _, _, Brand, Brand, _>(
@@ -122,10 +120,7 @@ fn serve_on<
         at,
         output,
     );
-    match ended {
-        Ok(()) => Ok(()),
-        Err(fault) => Err(fault_of(fault, &why)),
-    }
+    ended.map_err(|fault| fault_of(fault, &why))
 }
 
 /// Serves connections there over the journal, whose file is made where it is not there, and gives the status.

@@ -2,8 +2,8 @@
 ghost use Rattle.std.specs.Prelude.{◌≡◌, None, false};
 
 use std::alloc::Global;
-use tsn_bytes::{ByteIn, ByteOut, Failed, Fault, put_all};
-use tsn_serve::Responder;
+use tsn_bytes::{ByteIn, ByteOut, Failed, put_all};
+use tsn_serve::{Ended, Responder};
 
 /// Answers an empty line with `empty`, a line of 131,072 bytes with `longest`, a longer one with `too long`, and any
 /// other with `line`.
@@ -17,12 +17,7 @@ impl Responder for Lengths {
 
     ghost breaks = { λ _ _ _ _ _. Unit {0} };
 
-    fn answer<W: ByteOut>(
-        &mut self,
-        _: Global,
-        line: Option<&[u8]>,
-        writer: &mut W,
-    ) -> Result<(), Fault> {
+    fn answer<W: ByteOut>(&mut self, _: Global, line: Option<&[u8]>, writer: &mut W) -> Ended {
         self.answered = self.answered.saturating_add(1);
         let Some(line) = line else {
             return put_all(writer, b"too long\n");

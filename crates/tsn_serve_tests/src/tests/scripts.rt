@@ -165,11 +165,8 @@ fn cut_at_read(
 ) -> Result<(), Fail> {
     let mut reader = MemIn::new(Vec::from_slice(alloc, input)?, most.max(1), Some(call));
     let mut writer = MemOut::new(Vec::new(alloc), 1, None);
-    same(
-        rt,
-        &run(alloc, &mut reader, &mut writer)?,
-        &Err(Fault::Read),
-    );
+    let end = run(alloc, &mut reader, &mut writer)?;
+    same(rt, &end, &Err(Fault::Read));
     assert_eq!(rt; writer.as_slice(), want, "at read {call}");
     Ok(())
 }
@@ -206,11 +203,8 @@ fn cut_at_write(
 ) -> Result<(), Fail> {
     let mut reader = MemIn::new(Vec::from_slice(alloc, INPUT)?, 7, None);
     let mut writer = MemOut::new(Vec::new(alloc), most.max(1), Some((call, failing)));
-    same(
-        rt,
-        &run(alloc, &mut reader, &mut writer)?,
-        &Err(Fault::Write),
-    );
+    let end = run(alloc, &mut reader, &mut writer)?;
+    same(rt, &end, &Err(Fault::Write));
     assert_eq!(rt; writer.as_slice(), want, "at write {call}");
     Ok(())
 }
