@@ -1,5 +1,5 @@
 //! Drafts: what a document gives, in the right shape, with numbers that may still be outside their ranges; and the
-//! members of its tables in the plain spelling, as far as they were read, and which comes next by the letters of its name.
+//! members of its tables in the plain spelling, as far as they were read, and which comes next by its name's letters.
 ghost use Rattle.std.proofs.Common.{rules};
 ghost use Rattle.tsn_setup.specs.PlainTrays.{port_trays, filter_trays, gate_trays, meter_trays, limits_trays, port_entry_trays, gate_entry_trays};
 

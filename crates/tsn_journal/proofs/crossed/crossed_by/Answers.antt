@@ -13,7 +13,7 @@ loop-part-preserved c =
     let p = c.part-item.result in
     record {
       free = λ i e le at.
-          ap (λ (ps : Change). crosses (Some ps) c.args.session e) (take_next c.parts-part-items.result.now j p (omega arith) c.part-item.is)
+          ap (λ (t : Change). crosses (Some t) c.args.session e) (take_next c.parts-part-items.result.now j p (omega arith) c.part-item.is)
           ∙ both_cross (take j c.parts-part-items.result.now) (p ∷ []) c.args.session e (c.loop-part.invariant.free i e (omega arith) at)
           (c.crossed_by_part-crossed.ensures.free i e le at);
       rises = omega (arith, c.loop-part.invariant.rises);
