@@ -120,7 +120,7 @@ batch_kept s es batch kept = rw ((of_word words.Batch).found, edits_kept es kept
 pub shaped : (s : ℕ) (command : CommandDraft) → IsSound command → line_shape (object (command_members s command)) ≡ Ok (Session s command)
 unfolding line_shape command_shape removed_key frame_members frame_shape
 shaped s (Edit (drafts.Put put key v)) (k, of) = rw ((of_word (words.Put put)).found, edit_shaped (put_word put) s key v k of) refl
-shaped s (Edit (drafts.Remove key)) (k, no) = rw ((of_word words.Remove).found, key_spelled key k, removable_back key key.kind no) refl
+shaped s (Edit (drafts.Remove key)) (k, may) = rw ((of_word words.Remove).found, key_spelled key k, removable_back key key.kind may) refl
 shaped s (Batch batch) sound = batch_kept s batch sound.0 sound.1
 shaped s (Act act key now) (k, has) = rw ((of_word (words.Act act)).found, act_shaped (act_word act) s key now k has) refl
 shaped s (States key at) (k, has) = rw ((of_word words.States).found, look_shaped s key at k has) refl

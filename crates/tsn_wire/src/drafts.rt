@@ -19,7 +19,7 @@ pub struct FrameDraft {
     pub yellow: bool,
 }
 
-/// An edit of a batch.
+/// An edit, alone or in a batch.
 #[derive(Debug, Drop)]
 pub enum EditDraft {
     Put {

@@ -23,6 +23,13 @@ pub enum Act {
     Apply,
 }
 
+/// Looks at what stands at a key.
+#[derive(Clone, Copy, Debug, PartialEq, Eq)]
+pub enum Look {
+    Counters,
+    Show,
+}
+
 /// Commands that name nothing.
 #[derive(Clone, Copy, Debug, PartialEq, Eq)]
 pub enum Bare {
@@ -65,13 +72,6 @@ pub enum Word {
     Since,
     Settle,
     Bare(Bare),
-}
-
-/// Looks at what stands at a key.
-#[derive(Clone, Copy, Debug, PartialEq, Eq)]
-pub enum Look {
-    Counters,
-    Show,
 }
 
 impl Word {
