@@ -3,7 +3,7 @@
 //! A configuration that is a setup is that of the first line. One that is longer than a setup may be begins with its
 //! limits and ports there. The rest comes in by commands of a first session, which creates it, what is referred to
 //! first, and settles that: so nothing of it can be taken back.
-use crate::journal::JournalFault;
+use crate::journal::{JournalFault, NO_MEMORY};
 use crate::lines::NewText;
 use std::alloc::{AllocError, Global};
 use std::{mem, time};
@@ -13,6 +13,7 @@ use tsn_config::records::Records;
 use tsn_edit::batches::Batch;
 use tsn_edit::{Edit, MOST_PARTS};
 use tsn_export::{SetupText, export_setup};
+use tsn_program::Failure;
 use tsn_recorded::LONGEST_COMMAND;
 use tsn_spelling::spell;
 use tsn_types::keys::{Key, Kind};
@@ -48,6 +49,11 @@ struct Creator {
     gathered: Vec<Edit>,
     // The bytes that they have, each counted as its own line is.
     bytes: usize,
+}
+
+// What a configuration can't be begun with for.
+fn refused(why: Refusal) -> JournalFault {
+    JournalFault::Failed(Failure::Refused(why))
 }
 
 // The key of a kind and a number; none where it has no such.
@@ -104,9 +110,13 @@ impl Creator {
 
     // Records one that makes an entry.
     fn enter(&mut self, command: Command) -> Result<(), JournalFault> {
-        self.record(command)?;
-        self.anew.entries = self.anew.entries.saturating_add(1);
-        Ok(())
+        match self.record(command) {
+            Ok(()) => {
+                self.anew.entries = self.anew.entries.saturating_add(1);
+                Ok(())
+            }
+            Err(fault) => Err(fault),
+        }
     }
 
     // Creates what is gathered, if it is anything, all at once.
@@ -116,8 +126,10 @@ impl Creator {
         if edits.is_empty() {
             return Ok(());
         }
-        let batch = Batch::new(edits)?;
-        self.enter(Command::Batch { batch })
+        match Batch::new(edits) {
+            Ok(batch) => self.enter(Command::Batch { batch }),
+            Err(why) => Err(refused(why)),
+        }
     }
 
     // Gathers the creation of a record, whose own line has so many bytes.
@@ -127,12 +139,17 @@ impl Creator {
             self.create_gathered()?;
         }
         self.bytes = self.bytes.saturating_add(bytes);
-        Ok(self.gathered.push(Edit::Create(key, value))?)
+        match self.gathered.push(Edit::Create(key, value)) {
+            Ok(()) => Ok(()),
+            Err(_) => Err(NO_MEMORY),
+        }
     }
 
     // Creates a record: alone where a batch's line would be too long, and else sooner or later.
     fn create(&mut self, key: &Key, value: Record) -> Result<(), JournalFault> {
-        let bytes = creation_length(self.alloc, key, &value)?;
+        let Ok(bytes) = creation_length(self.alloc, key, &value) else {
+            return Err(NO_MEMORY);
+        };
         if bytes > LONGEST_COMMAND {
             return Err(JournalFault::LongRecord(*key));
         }
@@ -147,12 +164,17 @@ impl Creator {
         let Some(found) = config.get(*key) else {
             return Ok(());
         };
-        self.create(key, found.try_clone()?)
+        match found.try_clone() {
+            Ok(value) => self.create(key, value),
+            Err(_) => Err(NO_MEMORY),
+        }
     }
 
     // Creates all records of a kind.
     fn create_kind(&mut self, config: &Config, kind: Kind) -> Result<(), JournalFault> {
-        let ids = config.ids(self.alloc, kind)?;
+        let Ok(ids) = config.ids(self.alloc, kind) else {
+            return Err(NO_MEMORY);
+        };
         'ids: for id in ids.as_slice() {
             if let Some(key) = key_of(kind, *id) {
                 self.create_found(config, &key)?;
@@ -168,7 +190,10 @@ fn by_creations<R: time::Clock>(
     alloc: Global,
     config: &Config,
 ) -> Result<Anew, JournalFault> {
-    let setup = ports_setup(alloc, config)?;
+    let setup = match ports_setup(alloc, config) {
+        Ok(setup) => setup,
+        Err(why) => return Err(refused(why)),
+    };
     let mut creator = Creator {
         alloc,
         anew: Anew {
@@ -200,6 +225,6 @@ pub(crate) fn text_of<R: time::Clock>(
             entries: 0,
         }),
         Err(Refusal::TooLong) => by_creations(rt, alloc, config),
-        Err(why) => Err(JournalFault::from(why)),
+        Err(why) => Err(refused(why)),
     }
 }

@@ -198,7 +198,9 @@ fn begun<R: Files<File = File> + AllocGlobal + time::Clock>(
     faultless(resumed.end)?;
     let Anew { text, entries } = text_of(rt, alloc, resumed.bridge.config())?;
     let session = if entries == 0 { 1 } else { 2 };
-    let commands = commands_of(alloc, &resumed.bridge, session, &acts.done)?;
+    let Ok(commands) = commands_of(alloc, &resumed.bridge, session, &acts.done) else {
+        return Err(NO_MEMORY);
+    };
     if acts.is_short {
         return Err(NO_MEMORY);
     }

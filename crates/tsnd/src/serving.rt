@@ -104,7 +104,9 @@ fn serve_on<
         device: D::over(file),
         why: &why,
     };
-    let keeper = Keeper::new(alloc, device, resumed.chain)?;
+    let Ok(keeper) = Keeper::new(alloc, device, resumed.chain) else {
+        return Err(NO_MEMORY);
+    };
     let clock = WallClock::new(rt, alloc);
     let at = last_instant(&serving);
     let ended = serve_lasting::<_, _, _, _, Brand, Brand, _>(
@@ -120,7 +122,10 @@ fn serve_on<
         at,
         output,
     );
-    ended.map_err(|fault| fault_of(fault, &why))
+    match ended {
+        Ok(()) => Ok(()),
+        Err(fault) => Err(fault_of(fault, &why)),
+    }
 }
 
 /// Serves connections there over the journal, whose file is made where it is not there, and gives the status.
