@@ -19,6 +19,7 @@ pub const EDITS: u32 = 16;
 
 /// What comes behind `{"do":"` in an edit, up to its last member. Which edit it may be is guessed from the second and
 /// third letter of its word.
+#[inline(always)]
 pub fn spelled_edit(alloc: Global, text: &mut Cursor<'_>) -> Option<EditDraft>
     ensures { IfSome result (λ e. SpellsEdited text.old e text.new) }
 {
