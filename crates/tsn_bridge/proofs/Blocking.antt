@@ -8,12 +8,14 @@ use Rattle.tsn_edit.proofs.KeyFacts.{by_bool, by_option}
 use Rattle.tsn_journal.specs.declared.entries.Entry.{Entry}
 use Rattle.tsn_journal.specs.Entries.{Applied, IsNumbered, standing}
 use Rattle.tsn_journal.specs.Finding.{find_conflict_of_others, find_own_in_conflict, last_where, later_than, own_standing}
-use Rattle.tsn_journal.proofs.Numbers.{IsLast, Rises, each_weaker, last_where_none, last_where_some, later_than_rest, rises_rest, rises_standing}
+use Rattle.tsn_journal.proofs.Numbers.{IsLast, Rises, last_where_none, last_where_some, later_than_rest, rises_rest, rises_standing}
 use Rattle.tsn_journal.proofs.Standing.{standing_found}
 use Rattle.tsn_undo.specs.UndoAll.{BlocksAll}
-use Rattle.tsn_undo.proofs.UndoAll.{on_right, same_number}
+use Rattle.tsn_undo.proofs.UndoAll.{same_number}
 use Rattle.tsn_bridge.specs.Headline.{BlocksNewest}
 use Rattle.tsn_bridge.proofs.AtOnce.{done_of}
+use Rattle.tsn_edit.proofs.Inverses.{each_weaker}
+use Rattle.tsn_journal.proofs.Grouping.{second_true}
 
 -- ---- elements of a list
 
@@ -172,5 +174,5 @@ module _ (es : List Entry) (s : ℕ) (numbered : IsNumbered 1 es) where
       let last = last_where_some own_test (standing es) e found in
       by_option (find_conflict_of_others es e)
       (λ none. let never : false ≡ true = sym (ap is_some none)
-      ∙ on_right (e.session == s) (is_some (find_conflict_of_others es e)) last.passes in (cc))
+      ∙ second_true (e.session == s) (is_some (find_conflict_of_others es e)) last.passes in (cc))
       (λ f some. record { own = e; other = f; own_is = found; other_is = some; some_own = some_own }))

@@ -1,5 +1,5 @@
 -- Over every list of commands the journal stays sound; and what an undo of all leaves.
-use Rattle.std.proofs.Common.{◌≡◌, ℕ, ◌+◌, ◌≤◌, List, [], ◌∷◌, ◌++◌, refl, sym, ◌∙◌, ap, subst, Some, None, arith, length, append_assoc}
+use Rattle.std.proofs.Common.{◌≡◌, ℕ, ◌+◌, ◌≤◌, List, [], ◌∷◌, ◌++◌, refl, sym, ◌∙◌, ap, subst, Some, None, arith, length, append_assoc, append-nil}
 use Rattle.tsn_edit.specs.declared.Edit.{Edit}
 use Rattle.tsn_chain.specs.Following.{frames_after}
 use Rattle.tsn_chain.specs.Instances.{FrameData}
@@ -8,7 +8,6 @@ use Rattle.tsn_journal.specs.declared.entries.What.{What}
 use Rattle.tsn_journal.specs.declared.entries.What.TheVariants.{Acted, Settled}
 use Rattle.tsn_journal.specs.Entries.{Applied, undone}
 use Rattle.tsn_journal.specs.Finding.{own_standing}
-use Rattle.tsn_journal.proofs.Numbers.{append_nil}
 use Rattle.tsn_undo.specs.Ledger.{enter}
 use Rattle.tsn_undo.specs.UndoAll.{TakesAllBack, undo_all_refusal, with_undone}
 use Rattle.tsn_undo.proofs.Adding.{sound_quiet, sound_settled}
@@ -40,7 +39,7 @@ no_entry s sessions time frames named more late =
       limits = refl;
       opening = refl;
       more = [];
-      entries = sym (append_nil s.book.entries);
+      entries = sym (append-nil s.book.entries);
       sessions = more;
       named = named;
       names = refl;
@@ -51,7 +50,7 @@ no_entry s sessions time frames named more late =
 no_name : (s : State) (sessions time : ℕ) (frames : FrameData) → s.sessions ≤ sessions → s.time ≤ time
     → IsLater s (record s { sessions = sessions; time = time; frames = frames })
 no_name s sessions time frames more late =
-    subst (λ names. IsLater s (record s { sessions = sessions; names = names; time = time; frames = frames })) (append_nil s.names)
+    subst (λ names. IsLater s (record s { sessions = sessions; names = names; time = time; frames = frames })) (append-nil s.names)
     (no_entry s sessions time frames [] more late)
 
 pub itself : (s : State) → IsLater s s
@@ -80,13 +79,13 @@ entered s n w time frames late =
       entries = refl;
       sessions = omega arith;
       named = [];
-      names = sym (append_nil s.names);
+      names = sym (append-nil s.names);
       time = late;
     }
 
 -- and one for each that was taken back
 all_entered : (es : List Entry) (n : ℕ) (xs : List Applied) → (more : List Entry) × (with_undone es n xs ≡ es ++ more)
-all_entered es n [] = ([], sym (append_nil es))
+all_entered es n [] = ([], sym (append-nil es))
 all_entered es n (x ∷ xs) =
     let rest = all_entered es n xs in
     let last : List Entry = record { number = length (with_undone es n xs) + 1; session = n; what = undone x } ∷ [] in
@@ -107,7 +106,7 @@ later s n f new (AllUndone free) =
       entries = more.1;
       sessions = omega arith;
       named = [];
-      names = sym (append_nil s.names);
+      names = sym (append-nil s.names);
       time = omega arith;
     }
 later s n f new (SettledTo upto) = entered s n (Settled upto) s.time s.frames (omega arith)

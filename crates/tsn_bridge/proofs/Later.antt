@@ -23,7 +23,7 @@ use Rattle.tsn_journal.specs.declared.entries.What.{What}
 use Rattle.tsn_journal.specs.declared.entries.What.TheVariants.{Made, Undone, Redone, Acted, Settled}
 use Rattle.tsn_journal.specs.Entries.{Applied, applies, undone}
 use Rattle.tsn_journal.specs.Finding.{own_standing}
-use Rattle.tsn_journal.proofs.Numbers.{each_weaker}
+use Rattle.tsn_edit.proofs.Inverses.{each_weaker}
 use Rattle.tsn_undo.specs.Ledger.{enter, present}
 use Rattle.tsn_undo.specs.UndoAll.{with_undone}
 use Rattle.tsn_undo.proofs.Adding.{configuration_push, nothing_push}
@@ -59,9 +59,9 @@ use Rattle.tsn_bridge.proofs.AtOnce.{done_of}
 use Rattle.tsn_bridge.proofs.Families.{ActDone, AllUndone, Changed, FamilyInRange, FrameTaken, Greeted, Left, Same, SettledTo, in_range, leaves}
 use Rattle.tsn_bridge.proofs.Interleaving.{after_both, follows, itself}
 
-both : {A : Type 0} (P : A → Type 0) (xs ys : List A) → AllByRecursion P xs → AllByRecursion P ys → AllByRecursion P (xs ++ ys)
-both P [] ys h g = g
-both P (x ∷ xs) ys h g = (h.0, both P xs ys h.1 g)
+pub all_joined : {A : Type 0} (P : A → Type 0) (xs ys : List A) → AllByRecursion P xs → AllByRecursion P ys → AllByRecursion P (xs ++ ys)
+all_joined P [] ys h g = g
+all_joined P (x ∷ xs) ys h g = (h.0, all_joined P xs ys h.1 g)
 
 -- ---- an entry that applied a change that fits
 
@@ -104,7 +104,7 @@ acts_left : (s : State) (n : ℕ) → ActsAreBy s → (ys : List Applied)
 acts_left s n a [] = a
 acts_left s n a (y ∷ ys) =
     let so_far = with_undone s.book.entries n ys in
-    both (λ (x : Entry). IsBy s.time x.what) so_far (record { number = length so_far + 1; session = n; what = undone y } ∷ [])
+    all_joined (λ (x : Entry). IsBy s.time x.what) so_far (record { number = length so_far + 1; session = n; what = undone y } ∷ [])
     (acts_left s n a ys) (tt, tt)
 
 -- ---- an act, and a frame
@@ -206,7 +206,7 @@ names_kept s n f new h (FrameTaken frame now x of is) = h
 by_entry : (s : State) (n : ℕ) (w : What) (time : ℕ) → s.time ≤ time → IsBy time w → ActsAreBy s
     → AllByRecursion (λ e. IsBy time e.what) (enter s.book n w).entries
 by_entry s n w time late by a =
-    both (λ (x : Entry). IsBy time x.what) s.book.entries (record { number = length s.book.entries + 1; session = n; what = w } ∷ [])
+    all_joined (λ (x : Entry). IsBy time x.what) s.book.entries (record { number = length s.book.entries + 1; session = n; what = w } ∷ [])
     (by_later s.time time s.book.entries late a) (by, tt)
 
 acts_kept : (s : State) (n : ℕ) (f : Family) (new : State) → Left s n f new → ActsAreBy s → ActsAreBy new

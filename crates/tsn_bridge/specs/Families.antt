@@ -58,6 +58,12 @@ family commands.Resume = Looking resume_look
 family commands.Sessions = Looking sessions_look
 family commands.Setup = Looking setup_look
 
+-- an act on a key at an instant, as a command
+abbrev pub act_command : Asked → Key → ℕ → Command
+act_command asked.Enable = commands.Enable
+act_command asked.Disable = commands.Disable
+act_command asked.Apply = commands.Apply
+
 -- a state as a look at what a journal keeps sees it: neither the bridge time nor what the filter chain keeps
 abbrev pub seen_by_looks : State → State
 seen_by_looks s = record s { time = 0; frames = no_frames }

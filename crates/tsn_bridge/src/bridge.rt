@@ -118,10 +118,7 @@ impl Bridge {
         ensures beyond { (why : AnyRefusal) → limits_cause setup.limits setup.records ≡ Some why → result ≡ Err why }
     {
         let Setup { limits, records } = setup;
-        let config = match Config::open(alloc, limits, records) {
-            Ok(config) => config,
-            Err(why) => return Err(why),
-        };
+        let config = Config::open(alloc, limits, records)?;
         let pair = Box::new(alloc, Pair::begin(alloc, config)?)?;
         Ok(Bridge {
             alloc,

@@ -1,6 +1,10 @@
 //! What a session may ask of the bridge, one variant for each command.
+ghost use Rattle.std.specs.Prelude.{◌≡◌};
+ghost use Rattle.tsn_bridge.specs.Families.{act_command};
+
 use tsn_chain::frame::Frame;
 use tsn_edit::batches::Batch;
+use tsn_journal::entries::Act;
 use tsn_types::keys::{Key, Kind};
 use tsn_types::names::SessionName;
 use tsn_types::numbers::Instant;
@@ -60,4 +64,17 @@ pub enum Command {
     Sessions,
     /// Asks for the present configuration as the text of a setup.
     Setup,
+}
+
+impl Command {
+    /// The command of an act on a key, at an instant.
+    pub fn of_act(act: Act, key: Key, now: Instant) -> Command
+        ensures { result ≡ act_command act key now }
+    {
+        match act {
+            Act::Enable => Command::Enable { key, now },
+            Act::Disable => Command::Disable { key, now },
+            Act::Apply => Command::Apply { key, now },
+        }
+    }
 }

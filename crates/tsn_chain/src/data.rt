@@ -2,7 +2,6 @@
 //!
 //! Instance data is new where an instance is created, stays where its record is replaced, and goes with it.
 ghost use Rattle.std.specs.Prelude.{◌≡◌};
-ghost use Rattle.tsn_meter.specs.Bucket.{full_of};
 ghost use Rattle.tsn_chain.specs.Following.{clipped_meter, new_filter, new_gate, new_meter};
 
 use tsn_meter::bucket::Bucket;

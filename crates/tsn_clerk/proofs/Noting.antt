@@ -11,18 +11,18 @@ use Rattle.tsn_commit.specs.Lines.{IsLine}
 use Rattle.tsn_bridge.specs.Rule.{may_change}
 use Rattle.tsn_replay.specs.Recording.{instant_told, kept, recorded, with_reply}
 use Rattle.tsn_spelling.specs.Line.{line_text}
-use Rattle.tsn_clerk.specs.declared.clerk.Deed.{Deed}
-use Rattle.tsn_clerk.specs.declared.clerk.Heard.{Heard}
+use Rattle.tsn_journal.specs.declared.entries.Act.{Act as Asked}
+use Rattle.tsn_bridge.specs.Families.{act_command}
 use Rattle.tsn_clerk.specs.declared.clerk.Heard.TheVariants as heard
 use Rattle.tsn_clerk.specs.declared.clerk.Manner.{Manner}
 use Rattle.tsn_clerk.specs.declared.clerk.Manner.TheVariants.{Act, Hello, Itself, Passing}
-use Rattle.tsn_clerk.specs.Noting.{EndsWith, HasLast, IsHeard, IsRecorded, act_of, manner_of}
+use Rattle.tsn_clerk.specs.Noting.{EndsWith, HasLast, IsHeard, IsRecorded, manner_of}
 
 -- what is kept of a command of this kind
 abbrev kept_by : ℕ → Command → ℕ → Manner → Option Ask
 kept_by n command at Itself = Some (record { session = n; command = command })
 kept_by n command at Hello = Some (record { session = 0; command = command })
-kept_by n command at (Act deed key) = Some (record { session = n; command = act_of deed key at })
+kept_by n command at (Act act key) = Some (record { session = n; command = act_command act key at })
 kept_by n command at Passing = None
 
 kept_is : (n : ℕ) (command : Command) (at : ℕ) → kept n command at ≡ kept_by n command at (manner_of command)
@@ -46,8 +46,8 @@ module _ (ask : Ask) (line : List ℕ) where
   pub hears_passing : manner_of ask.command ≡ Passing → IsHeard heard.Passing line ask
   hears_passing is at = of_manner Passing is at
 
-  pub hears_act : (deed : Deed) (key : Key) → manner_of ask.command ≡ Act deed key → IsHeard (heard.Act deed key ask.session) line ask
-  hears_act deed key is at = of_manner (Act deed key) is at
+  pub hears_act : (act : Asked) (key : Key) → manner_of ask.command ≡ Act act key → IsHeard (heard.Act act key ask.session) line ask
+  hears_act act key is at = of_manner (Act act key) is at
 
   pub hears_itself : manner_of ask.command ≡ Itself → line ≡ line_text ask → IsHeard heard.Line line ask
   hears_itself is spelled at = (ask, of_manner Itself is at, spelled)
@@ -88,13 +88,14 @@ noted_line ask reply line (Some lines) h ends =
     let k = h (instant_told reply) in
     one_kept ask reply lines k.0 k.1 (subst (λ l. EndsWith lines l) k.2 ends)
 
-pub noted_act : (ask : Ask) (reply : Reply) (line : List ℕ) (deed : Deed) (key : Key) (session : ℕ) (mark : Option (List (List ℕ)))
-    → IsHeard (heard.Act deed key session) line ask
-    → IfSome mark (λ lines. EndsWith lines (line_text (record { session = session; command = act_of deed key (instant_told reply) })))
+pub noted_act : (ask : Ask) (reply : Reply) (line : List ℕ) (act : Asked) (key : Key) (session : ℕ) (mark : Option (List (List ℕ)))
+    → IsHeard (heard.Act act key session) line ask
+    → IfSome mark (λ lines. EndsWith lines (line_text (record { session = session; command = act_command act key (instant_told reply) })))
     → IsRecorded ask reply mark
-noted_act ask reply line deed key session None h ends = tt
-noted_act ask reply line deed key session (Some lines) h ends =
-    one_kept ask reply lines (record { session = session; command = act_of deed key (instant_told reply) }) (h (instant_told reply)) ends
+noted_act ask reply line act key session None h ends = tt
+noted_act ask reply line act key session (Some lines) h ends =
+    one_kept ask reply lines (record { session = session; command = act_command act key (instant_told reply) }) (h (instant_told reply))
+    ends
 
 pub noted_none : (ask : Ask) (reply : Reply) (line : List ℕ) (lines : List (List ℕ)) → IsHeard heard.Passing line ask
     → IsRecorded ask reply (Some lines)

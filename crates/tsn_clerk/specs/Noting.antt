@@ -1,34 +1,21 @@
 -- What a clerk hears, and what it says of a turn.
-use Rattle.std.specs.Prelude.{◌≡◌, ◌≢◌, ℕ, List, [], ◌∷◌, ◌++◌, Bool, true, false, Option, Some, None}
-use Rattle.tsn_types.specs.declared.keys.Key.{Key}
+use Rattle.std.specs.Prelude.{◌≡◌, ◌≢◌, ℕ, List, [], ◌∷◌, ◌++◌, Option, Some, None}
 use Rattle.tsn_bridge.specs.declared.command.Ask.{Ask}
 use Rattle.tsn_bridge.specs.declared.command.Command.{Command}
-use Rattle.tsn_bridge.specs.declared.command.Command.TheVariants as commands
 use Rattle.tsn_bridge.specs.declared.reply.Reply.{Reply}
-use Rattle.tsn_bridge.specs.Families.{Acting, Counting, Family, Framing, Greeting, Looking, family}
+use Rattle.tsn_bridge.specs.Families.{Acting, Counting, Family, Framing, Greeting, Looking, family, act_command}
 use Rattle.tsn_bridge.specs.Histories.{Answered}
-use Rattle.tsn_journal.specs.declared.entries.Act.TheVariants as asked
 use Rattle.tsn_replay.specs.Recording.{kept, recorded}
 use Rattle.tsn_spelling.specs.Line.{line_text}
-use Rattle.tsn_clerk.specs.declared.clerk.Deed.{Deed}
-use Rattle.tsn_clerk.specs.declared.clerk.Deed.TheVariants.{Enable, Disable, Apply}
 use Rattle.tsn_clerk.specs.declared.clerk.Heard.{Heard}
 use Rattle.tsn_clerk.specs.declared.clerk.Heard.TheVariants as heard
 use Rattle.tsn_clerk.specs.declared.clerk.Manner.{Manner}
 use Rattle.tsn_clerk.specs.declared.clerk.Manner.TheVariants.{Act, Hello, Itself, Passing}
 
--- an act on a key at an instant
-abbrev pub act_of : Deed → Key → ℕ → Command
-act_of Enable key now = commands.Enable key now
-act_of Disable key now = commands.Disable key now
-act_of Apply key now = commands.Apply key now
-
 -- how a command of a family is kept, if it is accepted
 abbrev pub manner_in : Family → Manner
 manner_in (Greeting name) = Hello
-manner_in (Acting asked.Enable k now) = Act Enable k
-manner_in (Acting asked.Disable k now) = Act Disable k
-manner_in (Acting asked.Apply k now) = Act Apply k
+manner_in (Acting act k now) = Act act k
 manner_in (Framing frame now) = Passing
 manner_in (Looking look) = Passing
 manner_in (Counting look) = Passing
@@ -42,8 +29,8 @@ manner_of command = manner_in (family command)
 abbrev pub IsHeard : Heard → List ℕ → Ask → Type 0
 IsHeard heard.Passing line ask = (at : ℕ) → kept ask.session ask.command at ≡ None
 IsHeard heard.Line line ask = (at : ℕ) → (to_keep : Ask) × (kept ask.session ask.command at ≡ Some to_keep) × (line ≡ line_text to_keep)
-IsHeard (heard.Act deed key session) line ask =
-    (at : ℕ) → kept ask.session ask.command at ≡ Some (record { session = session; command = act_of deed key at })
+IsHeard (heard.Act act key session) line ask =
+    (at : ℕ) → kept ask.session ask.command at ≡ Some (record { session = session; command = act_command act key at })
 IsHeard heard.Lost line ask = Unit {0}
 
 -- The lines end with this one.

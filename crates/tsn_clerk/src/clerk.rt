@@ -2,10 +2,11 @@
 //! accepted, and no hello that goes on as a session.
 ghost use Rattle.std.specs.Prelude.{◌≡◌, ◌⊎◌, IfSome, true};
 ghost use Rattle.tsn_bridge.specs.declared.command.Ask.{Ask as AnyAsk};
+ghost use Rattle.tsn_bridge.specs.Families.{act_command};
 ghost use Rattle.tsn_bridge.specs.Rule.{may_change};
 ghost use Rattle.tsn_replay.specs.Recording.{instant_told};
 ghost use Rattle.tsn_spelling.specs.Line.{line_text};
-ghost use Rattle.tsn_clerk.specs.Noting.{EndsWith, IsHeard, IsRecorded, act_of, manner_of};
+ghost use Rattle.tsn_clerk.specs.Noting.{EndsWith, IsHeard, IsRecorded, manner_of};
 
 use crate::line::Line;
 use std::alloc::{AllocError, Global};
@@ -17,17 +18,10 @@ use tsn_commit::{Ahead, Commit};
 use tsn_desk::machine::Witness;
 use tsn_device::Device;
 use tsn_history::{Front, Naming};
+use tsn_journal::entries::Act;
 use tsn_keeping::Clock;
 use tsn_types::keys::Key;
 use tsn_types::numbers::Instant;
-
-/// What an act does to the gate list of its key.
-#[derive(Clone, Copy, Debug, PartialEq, Eq)]
-pub enum Deed {
-    Enable,
-    Disable,
-    Apply,
-}
 
 /// How a command is kept, if it is accepted.
 #[derive(Clone, Copy, Debug, PartialEq, Eq)]
@@ -37,7 +31,7 @@ pub enum Manner {
     /// As a hello, which is of no session.
     Hello,
     /// As an act on this key at the instant that counts.
-    Act(Deed, Key),
+    Act(Act, Key),
     /// Not at all.
     Passing,
 }
@@ -50,7 +44,7 @@ pub enum Heard {
     /// A command whose line was spelled.
     Line,
     /// An act of this session, whose line waits for the instant that counts.
-    Act(Deed, Key, u32),
+    Act(Act, Key, u32),
     /// A command whose line could not be spelled. The room for it is taken once, so there is none such.
     Lost,
 }
@@ -70,9 +64,9 @@ fn manner_of(command: &Command) -> Manner
 {
     match command {
         Command::Hello { .. } => Manner::Hello,
-        Command::Enable { key, .. } => Manner::Act(Deed::Enable, *key),
-        Command::Disable { key, .. } => Manner::Act(Deed::Disable, *key),
-        Command::Apply { key, .. } => Manner::Act(Deed::Apply, *key),
+        Command::Enable { key, .. } => Manner::Act(Act::Enable, *key),
+        Command::Disable { key, .. } => Manner::Act(Act::Disable, *key),
+        Command::Apply { key, .. } => Manner::Act(Act::Apply, *key),
         Command::Create { .. }
         | Command::Replace { .. }
         | Command::Remove { .. }
@@ -82,16 +76,6 @@ fn manner_of(command: &Command) -> Manner
         | Command::Redo
         | Command::Settle { .. } => Manner::Itself,
         _ => Manner::Passing,
-    }
-}
-
-fn act_of(deed: Deed, key: Key, now: Instant) -> Command
-    ensures { result ≡ act_of deed key now }
-{
-    match deed {
-        Deed::Enable => Command::Enable { key, now },
-        Deed::Disable => Command::Disable { key, now },
-        Deed::Apply => Command::Apply { key, now },
     }
 }
 
@@ -142,15 +126,15 @@ impl<'a, W: Wait, C: Clock, D: Device, R: Naming, K: Ahead> Clerk<'a, W, C, D, R
     }
 
     // Records an act at the instant that the reply tells.
-    fn record_act(&mut self, deed: Deed, key: Key, session: u32, reply: &Reply) -> Option<Front<R>>
+    fn record_act(&mut self, act: Act, key: Key, session: u32, reply: &Reply) -> Option<Front<R>>
         requires { may_change reply.now ≡ true }
         ensures { IfSome result (λ lines.
-            EndsWith lines (line_text (record { session = session; command = act_of deed key (instant_told reply.now) }))) }
+            EndsWith lines (line_text (record { session = session; command = act_command act key (instant_told reply.now) }))) }
     {
         let now = instant_in(reply)?;
         let ask = Ask {
             session,
-            command: act_of(deed, key, now),
+            command: Command::of_act(act, key, now),
         };
         if !self.line.spell(&ask) {
             return None;

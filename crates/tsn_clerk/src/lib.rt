@@ -8,7 +8,7 @@ mod line;
 mod talk;
 mod windows;
 
-pub use clerk::{Clerk, Deed, Heard, Manner};
+pub use clerk::{Clerk, Heard, Manner};
 pub use host::{LastingHost, Stop};
 pub use talk::{Talk, TalkFault};
 pub use windows::talk_on;

@@ -1,7 +1,5 @@
 //! A connection whose replies wait until what they tell of is kept.
 ghost use Rattle.std.specs.Prelude.{◌≡◌, ◌++◌, [], Some, None, IfOk, OnOk, OnErr, option_map};
-ghost use Rattle.std.specs.Io.KnownBytes.{Appends};
-ghost use Rattle.tsn_bytes.specs.Bytes.{IsCut};
 ghost use Rattle.tsn_replies.specs.Replies.{reply_text};
 ghost use Rattle.tsn_serve.specs.Talk.{Goes};
 ghost use Rattle.tsn_clerk.specs.Talking.{Answers, AnswersBreak, AnswersLine, BreaksLine, BreaksOff, Covers, HandsOn, IsCovered, IsDue, Replied, Tells};

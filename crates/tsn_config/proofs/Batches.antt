@@ -22,7 +22,7 @@ use Rattle.tsn_config.proofs.Among.{AreSound, IsSound, beside_none, kept_togethe
 use Rattle.tsn_config.proofs.Edits.{none_dangling}
 
 -- where the lesser of two is none, both are
-none_lesser : (o p : Option Refusal) → lesser o p ≡ None → (o ≡ None) × (p ≡ None)
+pub none_lesser : (o p : Option Refusal) → lesser o p ≡ None → (o ≡ None) × (p ≡ None)
 none_lesser o p h = grind arith
 
 -- one cause more was looked at

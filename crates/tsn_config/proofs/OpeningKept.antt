@@ -68,8 +68,8 @@ some_left o p h = grind arith
 some_right : {A : Type 0} (o p : Option A) → IsSome p → IsSome (option_or o p)
 some_right o p h = grind arith
 
-above : (n m : ℕ) → n ≤ suc m → nat_le n m ≡ false → n ≡ suc m
-above n m le h = grind (arith, nat_tests)
+pub last_port : (n m : ℕ) → n ≤ suc m → nat_le n m ≡ false → n ≡ suc m
+last_port n m le h = grind (arith, nat_tests)
 
 port_there : (n m : ℕ) → 1 ≤ n → n ≤ m → IsSome (find key_cmp (Port n) (default_ports m))
 port_there n zero low high = absurd (omega arith)
@@ -79,7 +79,7 @@ port_there n (suc m) low high =
     ∙ by_bool (nat_le n m)
     (λ yes. some_left _ (find key_cmp (Port n) last) (port_there n m low (leb-true n m yes)))
     (λ no. some_right (find key_cmp (Port n) (default_ports m)) _
-    (ap (λ x. is_some (find key_cmp (Port x) last)) (above n m high no)
+    (ap (λ x. is_some (find key_cmp (Port x) last)) (last_port n m high no)
     ∙ ap (λ b. is_some (cond b (Some default_port) None)) (same_itself (Port (suc m)))))
 
 none_each : (c : Configuration) (es : List (Key × Record)) → first_cause (map (λ e. dangling c e.1) es) ≡ None

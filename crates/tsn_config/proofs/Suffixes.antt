@@ -1,9 +1,9 @@
 -- Parts that are tested one by one: what holds of those that are left holds of all.
 use Rattle.std.proofs.Common.{None, ◌≡◌, ℕ, zero, suc, ◌||◌, ◌+◌, ◌<◌, true, false, List, [], ◌∷◌, length, drop, get_or, refl, sym, ◌∙◌, ap, subst, Option, drop-cons, add-one, arith}
 use Rattle.std.specs.Prelude.{is_none}
-use Rattle.std.specs.List.{AllByRecursion, IsDistinct}
+use Rattle.std.specs.List.{IsDistinct}
 use Rattle.std.specs.FinMap.{get}
-use Rattle.tsn_edit.proofs.Batched.{none_alike}
+use Rattle.tsn_edit.proofs.Batched.{none_alike, not_apart}
 use Rattle.tsn_types.specs.declared.keys.Key.{Key}
 use Rattle.tsn_types.specs.declared.records.Record.{Record}
 use Rattle.tsn_types.specs.declared.limits.Limits.{Limits}
@@ -27,10 +27,6 @@ unfolding IsDistinct
 distinct_left zero ps h = h
 distinct_left (suc i) [] h = tt
 distinct_left (suc i) (p ∷ ps) h = distinct_left i ps h.1
-
-pub not_apart : (k : Key) (ks : List Key) → AllByRecursion (λ q. same_key k q ≡ false) ks → has ks k ≡ false
-not_apart k [] h = refl
-not_apart k (q ∷ ks) h = ap (λ b. b || has ks k) h.0 ∙ not_apart k ks h.1
 
 -- parts of which p is the first, and qs are the others
 module _ (ps qs : List Part) (p : Part) (is : ps ≡ p ∷ qs) where

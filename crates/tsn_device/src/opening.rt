@@ -3,7 +3,6 @@
 //! No contract of std tells what a file holds, so that these functions say nothing by contract: each is a few lines, to
 //! be read by hand. A journal is locked for as long as it is open. Beside a journal FILE there may be FILE.new, a
 //! journal in the making, and FILE.cut, which keeps what was cut off.
-ghost use Rattle.std.specs.Prelude.{◌≤◌, length};
 
 use crate::writing::write_all;
 use std::alloc::{AllocError, Global};

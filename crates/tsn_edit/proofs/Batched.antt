@@ -1,5 +1,5 @@
 -- Facts about the edits of a batch.
-use Rattle.std.proofs.Common.{◌≡◌, ◌≤◌, true, false, ◌||◌, List, [], ◌∷◌, length, refl, ap, arith}
+use Rattle.std.proofs.Common.{◌≡◌, ◌≤◌, true, false, ◌||◌, List, [], ◌∷◌, length, refl, ap, arith, ◌∙◌}
 use Rattle.std.specs.Prelude.{not}
 use Rattle.std.specs.List.{AllByRecursion, IsDistinct, list_any}
 use Rattle.std.proofs.lemmas.Bool.{or_parts, and_parts, not-true}
@@ -16,6 +16,10 @@ edited_is (e ∷ b) k = ap (λ t. same_key k (key_of e) || t) (edited_is b k)
 pub batch_of_one : (e : Edit) → IsBatch (e ∷ [])
 unfolding IsDistinct
 batch_of_one e = record { some = omega arith; few = omega arith; distinct = (tt, tt) }
+
+pub not_apart : (k : Key) (ks : List Key) → AllByRecursion (λ q. same_key k q ≡ false) ks → has ks k ≡ false
+not_apart k [] h = refl
+not_apart k (q ∷ ks) h = ap (λ b. b || has ks k) h.0 ∙ not_apart k ks h.1
 
 pub none_alike : (k : Key) (ks : List Key) → has ks k ≡ false → AllByRecursion (λ q. same_key k q ≡ false) ks
 none_alike k [] h = tt

@@ -6,7 +6,6 @@ use Rattle.std.specs.FinMap.{entries, find, get, get-from_entries, is_sorted}
 use Rattle.std.specs.FinMap.Entries.{below_all}
 use Rattle.std.specs.List.{AllByRecursion}
 use Rattle.std.proofs.lemmas.Bool.{and_parts, eqb-true, leb-true}
-use Rattle.std.proofs.lemmas.Bool.Decides.{nat_tests}
 use Rattle.tsn_types.specs.declared.keys.Key.{Key}
 use Rattle.tsn_types.specs.declared.keys.Key.TheVariants.{Port, Filter, Gate, Meter}
 use Rattle.tsn_types.specs.declared.limits.Limits.{Limits}
@@ -31,6 +30,7 @@ use Rattle.tsn_export.specs.Going.{Entries}
 use Rattle.tsn_export.specs.Text.{is_default, named}
 use Rattle.tsn_export.proofs.Along.{above_other, each_moved, each_stands}
 use Rattle.tsn_export.proofs.Named.{is_named, kept, named_each, named_found, named_sorted}
+use Rattle.tsn_config.proofs.OpeningKept.{last_port}
 
 -- ---- the port that no setup names
 
@@ -60,9 +60,6 @@ absent k (suc m) other =
     find_append k (default_ports m) ((Port (suc m), default_port) ∷ [])
     ∙ (λ i. option_or (absent k m (λ n low high. other n low (omega (arith, high))) i)
     (cond (other (suc m) (omega arith) (omega arith) i) (Some default_port) None))
-
-last_port : (n m : ℕ) → n ≤ suc m → nat_le n m ≡ false → n ≡ suc m
-last_port n m high above = grind (arith, nat_tests)
 
 lower_port : (n m : ℕ) → n ≤ m → same_key (Port (suc m)) (Port n) ≡ false
 lower_port n m high = by_bool (same_key (Port (suc m)) (Port n))

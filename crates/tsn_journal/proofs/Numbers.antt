@@ -1,5 +1,5 @@
 -- Lists of entries with one more, the numbers of entries, and the entries after one.
-use Rattle.std.proofs.Common.{◌≡◌, ℕ, ◌+◌, ◌<◌, ◌≤◌, Bool, true, false, cond, ◌||◌, not, List, [], ◌∷◌, ◌++◌, refl, sym, ◌∙◌, ap, Option, Some, None, arith, rules}
+use Rattle.std.proofs.Common.{◌≡◌, ℕ, ◌+◌, ◌<◌, ◌≤◌, Bool, true, false, cond, ◌||◌, not, List, [], ◌∷◌, ◌++◌, refl, sym, ◌∙◌, ap, Option, Some, None, arith}
 use Rattle.std.proofs.lemmas.Grind.{common_steps}
 use Rattle.std.specs.Prelude.{filter, option_map, ◌==◌, nat_le, nat_lt}
 use Rattle.std.specs.List.{AllByRecursion, cons_option}
@@ -15,9 +15,7 @@ use Rattle.tsn_journal.proofs.Marking.{is_closed-push}
 use Rattle.std.proofs.lemmas.List.Elements.{filter_map-append, filter-append}
 use Rattle.std.proofs.lemmas.Bool.{le-ltb}
 use Rattle.tsn_edit.proofs.KeyFacts.{by_bool}
-
-pub append_nil : {A : Type 0} (xs : List A) → xs ++ [] ≡ xs
-append_nil xs = search rules
+use Rattle.tsn_edit.proofs.Inverses.{each_weaker}
 
 pub changes-append : (xs ys : List Applied) → changes (xs ++ ys) ≡ changes xs ++ changes ys
 changes-append xs ys = grind (arith, common_steps)
@@ -145,10 +143,6 @@ rises_rest n (y ∷ front) x rest r = grind (arith, rises_rest (y.number + 1) fr
 pub rises_above : (n : ℕ) (xs : List Applied) → Rises n xs → AllByRecursion (λ y. n ≤ y.number) xs
 rises_above n [] r = tt
 rises_above n (y ∷ xs) r = grind (arith, rises_above n xs (rises_lower n (y.number + 1) xs (omega arith) r.1))
-
-pub each_weaker : {A : Type 0} (P Q : A → Type 0) → ((x : A) → P x → Q x) → (xs : List A) → AllByRecursion P xs → AllByRecursion Q xs
-each_weaker P Q f [] h = tt
-each_weaker P Q f (x ∷ xs) h = (f x h.0, each_weaker P Q f xs h.1)
 
 above_lt : (n m : ℕ) → n + 1 ≤ m → nat_lt n m ≡ true
 above_lt n m h = grind (arith, nat_tests)

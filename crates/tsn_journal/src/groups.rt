@@ -1,10 +1,8 @@
 //! Groups of entries that a finder looks through.
 ghost use Rattle.std.specs.Prelude.{◌≡◌};
 ghost use Rattle.tsn_types.specs.Keys.{keys_of_refs, refs_of};
-ghost use Rattle.tsn_journal.specs.declared.entries.MarkedEntry.{MarkedEntry as AnyEntry};
-ghost use Rattle.tsn_journal.specs.declared.groups.Group.{Group as AnyGroup};
 ghost use Rattle.std.specs.Option.{option_copied};
-ghost use Rattle.tsn_journal.specs.Index.{belongs, is_among, standing_change};
+ghost use Rattle.tsn_journal.specs.Index.{belongs, standing_change};
 
 use crate::entries::MarkedEntry;
 use tsn_edit::{Change, is_on, is_referred_after};

@@ -3,7 +3,7 @@
 //! Nodes are only ever added. A link leads back from each to the last node before it in its group, and another to the
 //! last one that is of another session, so that a session's own entries are passed in one step; which of the entries
 //! still belong to the group, the marks say.
-ghost use Rattle.std.specs.Prelude.{◌≡◌, ◌&&◌, ◌*◌, ◌+◌, ◌-◌, ◌≤◌, ◌∷◌, [], Bool, IfOk, List, OnOk, Option, Some, drop, filter, length, map, option_map, option_to_list, reverse, slice_get, true};
+ghost use Rattle.std.specs.Prelude.{◌≡◌, ◌&&◌, ◌*◌, ◌+◌, ◌-◌, ◌≤◌, ◌∷◌, [], Bool, IfOk, List, OnOk, Option, Some, drop, filter, length, map, option_map, option_to_list, slice_get, true};
 ghost use Rattle.std.specs.Option.{option_copied};
 ghost use Rattle.tsn_journal.specs.declared.entries.MarkedEntry.{MarkedEntry as AnyEntry};
 ghost use Rattle.tsn_journal.specs.declared.groups.Group.{Group as AnyGroup};
@@ -14,7 +14,7 @@ ghost use Rattle.tsn_journal.specs.declared.groups.Group.TheVariants.{EndsRedo, 
 ghost use Rattle.tsn_journal.specs.Index.{Adds, AreNodes, HasNodes, HasRoom, IsIndexed, IsIndexedBut, IsIndexedButNewest, IsLast, IsNewest, NewestAdds, NoneBetween, NoneFrom, TakesNoRoom, TakesNodes, TakesRoom, belongs, belongs_to_others, group_if, groups_of_parts, is_by, most_nodes, number_at, other_of, nodes_for};
 ghost use Rattle.tsn_journal.specs.Latest.{latest_of};
 ghost use Rattle.tsn_journal.specs.Marks.{AreOff, IsTally, is_own};
-ghost use Rattle.tsn_journal.specs.Newest.{HasNewest, IsIn, KeepsNewest, MendsNewest, groups_of};
+ghost use Rattle.tsn_journal.specs.Newest.{IsIn, KeepsNewest, MendsNewest, groups_of};
 ghost use Rattle.tsn_journal.specs.Tests.{Tests};
 ghost use Rattle.tsn_journal.specs.Touched.{NewestTold, Tells, TellsSame, Told};
 ghost use Rattle.tsn_edit.specs.Changes.{keys_of, refs_after};
@@ -507,24 +507,6 @@ impl Index {
         requires off { AreOff settled marked.now }
         ensures { IfOk result (λ numbers. numbers.items ≡ map (λ m. m.entry.number) (filter (belongs (Of session)) marked.now)) }
     {
-        let mut found = self.falling_numbers_of(alloc, marked, session, settled)?;
-        found.reverse();
-        Ok(found)
-    }
-
-    /// The numbers of the session's standing entries, falling. Those up to the number `settled` are off. Refused only
-    /// for want of memory.
-    fn falling_numbers_of(
-        &self,
-        alloc: Global,
-        marked: &[MarkedEntry],
-        session: u32,
-        settled: u64,
-    ) -> Result<Vec<u64>, AllocError>
-        requires index { IsIndexed marked.now self.now }
-        requires off { AreOff settled marked.now }
-        ensures { IfOk result (λ numbers. reverse numbers.items ≡ map (λ m. m.entry.number) (filter (belongs (Of session)) marked.now)) }
-    {
         let mut found = Vec::new(alloc);
         let mut node = self.latest.session_nodes(session).standing;
         'back: while node != 0 {
@@ -538,6 +520,7 @@ impl Index {
             }
             node = at.before;
         }
+        found.reverse();
         Ok(found)
     }
 

@@ -1,15 +1,14 @@
 -- What was recorded of one command is entered: a line, or nothing.
 use Rattle.std.specs.Prelude.{◌==◌, false, true}
-use Rattle.std.proofs.Common.{◌≡◌, ◌≢◌, ℕ, ◌-◌, ◌≤◌, List, [], ◌∷◌, ◌++◌, Option, Some, None, refl, sym, ◌∙◌, ap, subst, arith, length, take, map}
+use Rattle.std.proofs.Common.{◌≡◌, ◌≢◌, ℕ, ◌-◌, ◌≤◌, List, [], ◌∷◌, ◌++◌, Option, Some, None, refl, sym, ◌∙◌, ap, subst, arith, length, take}
 use Rattle.std.proofs.lemmas.List.{append-nil, length-append, take-append-le, take_all}
 use Rattle.tsn_bridge.specs.Histories.{Answered}
 use Rattle.tsn_keeping.specs.Keeping.{Keeping, with_entered}
-use Rattle.tsn_recorded.specs.Text.{AreRecordedAfter, IsRecordedAfter, Recorded, body_of, digest_after, text_after, text_of as text_of_line}
+use Rattle.tsn_recorded.specs.Text.{AreRecordedAfter, IsRecordedAfter, Recorded, text_of as text_of_line}
 use Rattle.tsn_keeping.proofs.Stamped.{stamped_fits}
 use Rattle.tsn_replay.specs.Recorder.{HasLine, line_feed, text_of}
 use Rattle.tsn_serve.specs.Lines.{longest_line}
 use Rattle.tsn_spelling.specs.Line.{line_text}
-use Rattle.tsn_lasting.specs.Exchanges.{command_of}
 use Rattle.tsn_lasting.specs.Parts.{Puts}
 use Rattle.tsn_keeping.specs.Stamps.{IsStamp}
 

@@ -2,7 +2,6 @@
 use Rattle.std.proofs.Common.{◌≡◌, ℕ, List, [], ◌++◌, Option, Some, None, refl, sym, ◌∙◌, ap, subst, append_assoc, take}
 use Rattle.std.proofs.lemmas.List.{append-nil}
 use Rattle.std.specs.Io.KnownBytes.{Consumes, IsAtEnd, Keeps}
-use Rattle.tsn_serve.specs.Lines.{short_line}
 use Rattle.tsn_lasting.specs.Parts.{Parts, standing}
 use Rattle.tsn_lasting.specs.Running.{Breaks, Ends, Goes, IsBroken, IsUnderWay, IsWhole}
 use Rattle.tsn_lasting.specs.Standing.{IsAtRest, Standing}

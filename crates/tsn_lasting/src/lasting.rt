@@ -1,6 +1,5 @@
 //! Who answers the lines of a script whose work lasts.
-ghost use Rattle.std.specs.Prelude.{◌≡◌, ℕ, List, [], ◌++◌, Option, OnOk, OnErr, IfOk, false, option_map};
-ghost use Rattle.std.specs.Io.KnownBytes.{Appends};
+ghost use Rattle.std.specs.Prelude.{◌≡◌, List, [], ◌++◌, Option, OnOk, OnErr, IfOk, false, option_map};
 ghost use Rattle.tsn_bridge.specs.Histories.{Answered};
 ghost use Rattle.tsn_replies.specs.Replies.{reply_text};
 ghost use Rattle.tsn_replay.specs.Recorder.{HasLine, text_of};

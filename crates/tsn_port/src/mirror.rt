@@ -1,16 +1,13 @@
 //! The mirror of a port, which follows the journal entry by entry.
 ghost use Rattle.std.specs.Prelude.{◌≡◌, ◌+◌, ◌-◌, ◌≤◌, ◌<◌, ◌++◌, List, [], length, take, IfOk, OnErr, OnOk, MatchResult};
-ghost use Rattle.std.specs.Option.{option_and_then, option_copied};
+ghost use Rattle.std.specs.Option.{option_copied};
 ghost use Rattle.tsn_types.specs.declared.keys.Key.TheVariants as keys;
 ghost use Rattle.tsn_types.specs.declared.records.PortEntry.{PortEntry as AnyPortEntry};
 ghost use Rattle.tsn_types.specs.declared.records.PortGates.{PortGates as AnyPortGates};
-ghost use Rattle.tsn_edit.specs.Changes.{part_of};
 ghost use Rattle.tsn_schedule.specs.Acts.{IsHistory, last_instant};
 ghost use Rattle.tsn_schedule.specs.Kept.{fresh};
-ghost use Rattle.tsn_schedule.specs.States.{state_in};
 ghost use Rattle.tsn_journal.specs.declared.entries.Entry.{Entry as AnyEntry};
-ghost use Rattle.tsn_journal.specs.Entries.{applies};
-ghost use Rattle.tsn_bridge.specs.Objects.{Object, after_entry, after_part, port_schedule, with_asked};
+ghost use Rattle.tsn_bridge.specs.Objects.{Object, after_entry, after_part, port_schedule};
 ghost use Rattle.tsn_port.specs.Mirrors.{AreOfPort, IsOfPort, Mirrors, Shows, ShowsGates, acted, first_record, mirrored, port_part, record_before};
 
 use std::alloc::AllocError;

@@ -1,18 +1,14 @@
 //! A worker of one port: its mirror, kept up with a bridge that threads share.
-ghost use Rattle.std.specs.Prelude.{◌≡◌, ◌⊎◌, ◌+◌, ◌^◌, ◌<◌, ◌≤◌, ◌↔◌, ℕ, List, length, true, false, IfErr, IfOk, IsErrOf, IsTrue, OnErr, OnOk, MatchResult};
+ghost use Rattle.std.specs.Prelude.{◌≡◌, ◌⊎◌, ◌+◌, ◌^◌, ◌<◌, ◌≤◌, ◌↔◌, ℕ, false, IfErr, IfOk, IsErrOf, IsTrue, OnErr, OnOk, MatchResult};
 ghost use Rattle.tsn_types.specs.declared.keys.Key.TheVariants.{Port};
-ghost use Rattle.tsn_types.specs.declared.records.PortGates.{PortGates as AnyPortGates};
 ghost use Rattle.tsn_types.specs.declared.records.Record.TheVariants as records;
 ghost use Rattle.tsn_types.specs.declared.refusals.Field.TheVariants as fields;
 ghost use Rattle.tsn_types.specs.declared.refusals.Refusal.TheVariants.{Range};
-ghost use Rattle.tsn_schedule.specs.Acts.{last_instant};
-ghost use Rattle.tsn_journal.specs.declared.entries.Entry.{Entry as AnyEntry};
 ghost use Rattle.tsn_desk.specs.Desks.{HasTurned, IsSeatOf, first_of, made, seen, tickets};
 ghost use Rattle.tsn_desk.specs.History.{Begins};
 ghost use Rattle.tsn_bridge.specs.declared.reply.Reply.TheVariants.{Shown, Refused, Entries as EntriesOf};
 ghost use Rattle.tsn_bridge.specs.Reached.{IsReached};
 ghost use Rattle.tsn_bridge.specs.Turns.{Turns};
-ghost use Rattle.tsn_port.specs.Mirrors.{Mirrors, ShowsGates, mirrored};
 ghost use Rattle.tsn_port.specs.Starting.{AnswersHello, AnswersLook, AnswersSince, Gives, HasRead, IsGivenIn, Looked, SaidHello, since};
 ghost use Rattle.tsn_port.specs.Workers.{CallsOnce, EndsIn, GoesOn, IsPast, IsRound, IsStart, IsStartFault, IsWorkerOf, TellsGates, entries_behind, last_seen, port_of};
 

@@ -1,6 +1,6 @@
 -- From a new bridge on, once its port is enabled, nothing refuses a look at the port.
 use Rattle.std.proofs.Common.{◌≡◌, ◌≤◌, ℕ, Bool, true, false, cond, refl, sym, ◌∙◌, ap, subst, arith, List, [], ◌∷◌, Option, Some, None}
-use Rattle.std.specs.Prelude.{is_some, nat_lt}
+use Rattle.std.specs.Prelude.{is_some}
 use Rattle.std.specs.FinMap.{get}
 use Rattle.std.proofs.lemmas.Bool.{le-leb}
 use Rattle.tsn_types.specs.declared.keys.Key.TheVariants.{Port}
@@ -9,10 +9,10 @@ use Rattle.tsn_types.specs.declared.refusals.Field.TheVariants as fields
 use Rattle.tsn_types.specs.declared.refusals.Refusal.{Refusal}
 use Rattle.tsn_types.specs.declared.refusals.Refusal.TheVariants.{Missing, NoSession, Range}
 use Rattle.tsn_types.specs.Limits.{holds_key, unless}
-use Rattle.tsn_types.specs.Refusals.{least, lesser, rank_of}
+use Rattle.tsn_types.specs.Refusals.{least}
 use Rattle.tsn_edit.proofs.KeyFacts.{same_itself}
 use Rattle.tsn_edit.specs.Runs.{run}
-use Rattle.tsn_schedule.specs.Acts.{Enable, last_instant}
+use Rattle.tsn_schedule.specs.Acts.{last_instant}
 use Rattle.tsn_journal.specs.declared.entries.Act.{Act as Asked}
 use Rattle.tsn_journal.specs.declared.entries.Act.TheVariants as asked
 use Rattle.tsn_journal.specs.declared.entries.What.TheVariants.{Acted}
@@ -33,22 +33,10 @@ use Rattle.tsn_bridge.proofs.Families.{state_of}
 use Rattle.tsn_bridge.proofs.Stepping.{accepted}
 use Rattle.tsn_program.specs.Listing.{Applies, IsSeenFrom, Takes, refusal_told}
 use Rattle.tsn_setup.specs.Opening.{IsNew}
+use Rattle.tsn_config.proofs.Batches.{none_lesser}
+use Rattle.tsn_types.proofs.Causes.{unless-None}
 
 -- ---- causes
-
--- where the lesser of two causes is none, neither is one
-neither : (o p : Option Refusal) → lesser o p ≡ None → (o ≡ None) × (p ≡ None)
-neither None p e = (refl, e)
-neither (Some a) None e = (cc)
-neither (Some a) (Some b) e = go (nat_lt (rank_of b) (rank_of a)) e
-  where
-    go : (t : Bool) → cond t (Some b) (Some a) ≡ None → (Some a ≡ None) × (Some b ≡ None)
-    go true e = (cc)
-    go false e = (cc)
-
-holds : (b : Bool) (why : Refusal) → unless b why ≡ None → b ≡ true
-holds true why e = refl
-holds false why e = (cc)
 
 -- a command on the list of a port that nothing refuses finds the port and its session
 module _ (s : State) (p : ℕ) (more : List (Option Refusal)) (none : least (list_causes s 1 (Port p) more) ≡ None) where
@@ -56,10 +44,10 @@ module _ (s : State) (p : ℕ) (more : List (Option Refusal)) (none : least (lis
   listed =
       let missing = unless (is_some (get (present s.book) (Port p))) (Missing (Port p)) in
       let session = unless (is_given s 1) NoSession in
-      let first = neither (unless (holds_key s.book.limits (Port p)) (Range fields.Key)) (least (session ∷ missing ∷ more)) none in
-      let second = neither session (least (missing ∷ more)) first.1 in
-      let third = neither missing (least more) second.1 in
-      (holds _ _ first.0, holds _ _ second.0, holds _ _ third.0)
+      let first = none_lesser (unless (holds_key s.book.limits (Port p)) (Range fields.Key)) (least (session ∷ missing ∷ more)) none in
+      let second = none_lesser session (least (missing ∷ more)) first.1 in
+      let third = none_lesser missing (least more) second.1 in
+      (unless-None _ _ first.0, unless-None _ _ second.0, unless-None _ _ third.0)
 
 -- what was taken has no cause and was done
 taken : (rule : Rule) (s new : State) (reply : Reply) → Allows rule s reply new → refusal_told reply ≡ None

@@ -26,14 +26,8 @@ pub(crate) fn show<W: ByteOut>(writer: &mut W, text: &[u8]) -> Result<(), Failur
     ensures failed { OnErr result (W.has_failed writer.new ≡ true) }
     ensures cut { OnErr result (IsFront (W.taken writer.old) (W.taken writer.new) text.now) }
 {
-    match put_all(writer, text) {
-        Ok(()) => {}
-        Err(fault) => return Err(Failure::Fault(fault)),
-    }
-    let Ok(()) = writer.flush() else {
-        return Err(Failure::Fault(Fault::Write));
-    };
-    Ok(())
+    put_all(writer, text).map_err(Failure::Fault)?;
+    writer.flush().map_err(|_| Failure::Fault(Fault::Write))
 }
 
 // Writes the text where it can. Nothing is left to do where it can't.

@@ -1,6 +1,5 @@
 //! A script of command lines over a bridge of its own.
 ghost use Rattle.std.specs.Prelude.{◌≡◌, ℕ, IfErr, Ok};
-ghost use Rattle.tsn_bytes.specs.declared.bytes.Fault.TheVariants.{Memory};
 ghost use Rattle.tsn_serve.specs.Outcomes.{moment};
 ghost use Rattle.tsn_program.specs.Program.{AnswersFrom, AnswersScript};
 

@@ -10,7 +10,6 @@ ghost use Rattle.tsn_chain.specs.declared.state.State.TheVariants as shown;
 ghost use Rattle.tsn_undo.specs.Ledger.{present};
 ghost use Rattle.tsn_bridge.specs.Acts.{has_entry};
 ghost use Rattle.tsn_bridge.specs.declared.command.Command.TheVariants as commands;
-ghost use Rattle.tsn_bytes.specs.Bytes.{IsCut};
 ghost use Rattle.tsn_bytes.specs.declared.bytes.Fault.TheVariants.{Write};
 ghost use Rattle.tsn_program.specs.Listing.{Applies, Enables, EnablesNot, EndsEarly, IsRefused, IsSeenFrom, Takes, gates_told, hexadecimal, instant_of, line_at, lines, listing_refusal, refusal_told, shows, state_line};
 ghost use Rattle.tsn_setup.specs.Opening.{IsNew};

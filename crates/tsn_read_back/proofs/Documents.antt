@@ -1,5 +1,5 @@
 -- Documents that are read back: the limits, and then the tables.
-use Rattle.std.proofs.Common.{◌≡◌, ℕ, List, [], ◌∷◌, ◌++◌, map, false, ◌==◌, length, codes, Some, None, Ok, refl, sym, ap, subst, ◌∙◌, arith, append_assoc}
+use Rattle.std.proofs.Common.{◌≡◌, ℕ, List, [], ◌∷◌, ◌++◌, map, false, ◌==◌, length, codes, Some, None, Ok, refl, sym, ap, subst, ◌∙◌, arith, append_assoc, append-nil}
 use Rattle.std.proofs.lemmas.Bool.Decides.{nat_tests}
 use Rattle.std.proofs.lemmas.List.Concat.{flat_map-append}
 use Rattle.std.specs.List.{flat_map}
@@ -25,7 +25,7 @@ use Rattle.tsn_setup.specs.Setups.{document_of, setup_shape}
 use Rattle.tsn_setup.specs.declared.drafts.LimitsDraft.{LimitsDraft}
 use Rattle.tsn_setup.specs.declared.drafts.TableDraft.{TableDraft}
 use Rattle.tsn_setup.proofs.Keyed.{keyed_draft}
-use Rattle.tsn_setup.proofs.OfKind.{InRange, AllOf, nothing_more, drafts_joined}
+use Rattle.tsn_setup.proofs.OfKind.{InRange, AllOf, drafts_joined}
 use Rattle.tsn_setup.proofs.WholeDocuments.{document_begun, document_ended, document_shaped, table_added}
 use Rattle.tsn_export.specs.Text.{number_line, table_text, limits_text}
 use Rattle.tsn_read_back.proofs.Joined.{in_three, in_five}
@@ -139,7 +139,7 @@ kind_back : (which : Kind) (es : List (Key × Record)) (text more : List ℕ) (l
     → ReadsDocument text (whole_trays l (with_kind which list ts)) (skip_blank (rows es ++ more))
     → ReadsDocument text (whole_trays l (with_kind which (list ++ map keyed_draft es) ts)) (skip_blank more)
 kind_back which [] text more l list ts fits are so =
-    subst (λ ds. ReadsDocument text (whole_trays l (with_kind which ds ts)) (skip_blank more)) (sym (nothing_more list)) so
+    subst (λ ds. ReadsDocument text (whole_trays l (with_kind which ds ts)) (skip_blank more)) (sym (append-nil list)) so
 kind_back which (e ∷ es) text more l list ts fits are so =
     let tail = rows es ++ more in
     let this : TableRead which (table_text e ++ tail) (keyed_draft e) tail =
@@ -164,7 +164,7 @@ in_rows : (p f g m : List (Key × Record)) → rows (p ++ f ++ g ++ m) ≡ rows 
 in_rows p f g m =
     flat_map-append table_text (p ++ f ++ g) m
     ∙ ap (λ t. t ++ rows m) (flat_map-append table_text (p ++ f) g ∙ ap (λ t. t ++ rows g) (flat_map-append table_text p f))
-    ∙ ap (λ t. rows p ++ rows f ++ rows g ++ t) (sym (nothing_more (rows m)))
+    ∙ ap (λ t. rows p ++ rows f ++ rows g ++ t) (sym (append-nil (rows m)))
     ∙ in_three (rows p) (rows f) (rows g) (rows m ++ [])
 
 all_drafts : (p f g m : List (Key × Record))

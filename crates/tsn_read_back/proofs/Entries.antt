@@ -1,5 +1,5 @@
 -- Entries of a list that are read back: inline tables, each on a line of its own.
-use Rattle.std.proofs.Common.{◌≡◌, ℕ, ◌+◌, ◌<◌, ◌≤◌, ◌^◌, ◌||◌, List, [], ◌∷◌, ◌++◌, map, Bool, true, false, cond, ◌==◌, length, length-drop, drop, codes, decimal, Option, Some, None, IfSome, Result, refl, sym, ap, subst, ◌∙◌, arith, append_assoc, length-append}
+use Rattle.std.proofs.Common.{◌≡◌, ℕ, ◌+◌, ◌<◌, ◌≤◌, ◌^◌, ◌||◌, List, [], ◌∷◌, ◌++◌, map, Bool, true, false, cond, ◌==◌, length, length-drop, drop, codes, decimal, Option, Some, None, IfSome, Result, refl, sym, ap, subst, ◌∙◌, arith, append_assoc, length-append, append-nil}
 use Rattle.std.proofs.lemmas.Bool.Decides.{nat_tests}
 use Rattle.std.specs.List.{AllByRecursion, flat_map}
 use Rattle.toml_parser.specs.Lexical.{first, skip_blank}
@@ -19,7 +19,6 @@ use Rattle.tsn_setup.specs.PlainTrays.{port_entry_trays, gate_entry_trays}
 use Rattle.tsn_setup.specs.Toml.{as_toml}
 use Rattle.tsn_setup.specs.declared.drafts.PlainPortEntry.{PlainPortEntry}
 use Rattle.tsn_setup.specs.declared.drafts.PlainGateEntry.{PlainGateEntry}
-use Rattle.tsn_setup.proofs.OfKind.{nothing_more}
 use Rattle.tsn_setup.proofs.Told.{port_entry_told, gate_entry_told}
 use Rattle.tsn_setup.proofs.Turning.{table_begun, table_more, table_ended, entries_begun, entries_more, entries_ended}
 use Rattle.tsn_setup.proofs.Values.{port_list_read, gate_list_read}
@@ -198,7 +197,7 @@ entries_back : {E D : Type 0} (shape : Data → Result D Unread) (line : E → L
     → AreRead shape line draft InRange → (es : List E) (text more : List ℕ) (list : List D) → AllByRecursion InRange es
     → EntriesSoFar shape text list (10 ∷ (flat_map line es ++ more)) → EntriesSoFar shape text (list ++ map draft es) (10 ∷ more)
 entries_back shape line draft InRange one [] text more list fits so =
-    subst (λ l. EntriesSoFar shape text l (10 ∷ more)) (sym (nothing_more list)) so
+    subst (λ l. EntriesSoFar shape text l (10 ∷ more)) (sym (append-nil list)) so
 entries_back {E} {D} shape line draft InRange one (e ∷ es) text more list fits so =
     let tail = flat_map line es ++ more in
     let here : EntriesSoFar shape text list (10 ∷ (line e ++ tail)) =

@@ -2,6 +2,7 @@
 use Rattle.std.proofs.Common.{◌≡◌, ℕ, ◌≤◌, ◌&&◌, List, [], ◌∷◌, map, Bool, true, false, if◌then◌else◌, nat_le, Option, Some, None, Result, Ok, Err, IfSome, refl, sym, ap₂, subst, arith, leb-true}
 use Rattle.std.specs.List.{AllByRecursion}
 use Rattle.std.proofs.lemmas.Bool.{and_parts, le-leb}
+use Rattle.tsn_types.specs.declared.keys.Key.{Key}
 use Rattle.tsn_types.specs.declared.records.PortEntry.{PortEntry}
 use Rattle.tsn_types.specs.declared.records.GateEntry.{GateEntry}
 use Rattle.tsn_types.specs.declared.records.Schedule.{Schedule}
@@ -12,7 +13,7 @@ use Rattle.tsn_types.specs.declared.records.FlowMeter.{FlowMeter}
 use Rattle.tsn_types.specs.declared.refusals.Field.{Field}
 use Rattle.tsn_types.specs.declared.refusals.Field.TheVariants as fields
 use Rattle.tsn_types.specs.InRange.{FilterInRange, GateEntryInRange, GateInRange, MeterInRange, PortEntryInRange, PortInRange, ScheduleInRange}
-use Rattle.tsn_types.specs.Numbers.{Within, greatest_bit_rate, greatest_gate_states, greatest_handle, greatest_instance, greatest_instant, greatest_max_sdu, greatest_priority, longest_cycle, longest_extension, longest_interval, most_octets}
+use Rattle.tsn_types.specs.Numbers.{Within, greatest_gate_states, greatest_handle, greatest_instance, greatest_instant, greatest_max_sdu, greatest_priority, longest_cycle, longest_extension, longest_interval, most_octets}
 use Rattle.tsn_records.specs.Answers.{◌>>=◌, each}
 use Rattle.tsn_records.specs.Ranges.{within, within_or_none, port_entry, gate_entry, schedule, port, gate, filter, meter}
 use Rattle.tsn_records.specs.Values.{port_entry_draft, gate_entry_draft, schedule_draft, port_draft, gate_draft, filter_draft, meter_draft}
@@ -48,6 +49,12 @@ passed_or_none field least most (Some n) p h =
 
 pub at_most : (field : Field) (most n m : ℕ) → within field 0 most n ≡ Ok m → (n ≡ m) × (m ≤ most)
 at_most field most n m h = let known = passed field 0 most n m h in (known.0, known.1.1)
+
+pub instance_passed : (n : ℕ) (k : Key) (P : Key → Type 0) (of : ℕ → Key)
+    → (within fields.Key 0 greatest_instance n >>= λ m. Ok (of m)) ≡ Ok k → ((m : ℕ) → n ≡ m → m ≤ greatest_instance → P (of m)) → P k
+instance_passed n k P of h holds =
+    last_step (within fields.Key 0 greatest_instance n) k P of h (λ m is.
+    let known = at_most fields.Key greatest_instance n m is in holds m known.0 known.1)
 
 upper : (most : ℕ) (o : Option ℕ) → IfSome o (Within 0 most) → IfSome o (λ n. n ≤ most)
 upper most None h = tt

@@ -3,7 +3,6 @@
 //! A member that is not there, or of another kind than is wanted, is a fault of shape.
 ghost use Rattle.std.specs.Prelude.{◌≡◌, Option, Some, None};
 ghost use Rattle.serde_json.specs.Data.{Data};
-ghost use Rattle.serde_json.specs.Find.{get};
 ghost use Rattle.serde_json.specs.View.{view};
 ghost use Rattle.tsn_records.specs.Answers.{seen};
 ghost use Rattle.tsn_records.specs.Json.{as_json, has_members, member_count, item_count, whole, whole_or_null, number_at, flag_at, text_at, value_at};

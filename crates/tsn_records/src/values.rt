@@ -1,12 +1,11 @@
 //! The members of a record as values, in the order of the table of members, and the draft that they make.
 //!
 //! Readers that go by the table read a record so; which member is which is said here alone.
-ghost use Rattle.std.specs.Prelude.{◌≡◌, ◌++◌, ◌∷◌, ◌<◌, [], IsTrue, length, map, set, ℕ};
-ghost use Rattle.tsn_records.specs.Members.{rows_of};
+ghost use Rattle.std.specs.Prelude.{◌≡◌, ◌++◌, ◌∷◌, ◌<◌, [], length, ℕ};
 ghost use Rattle.tsn_records.specs.declared.drafts.MemberDraft.TheVariants.{Unread};
 ghost use Rattle.tsn_types.specs.declared.keys.Kind.TheVariants as kinds;
 ghost use Rattle.tsn_records.specs.declared.drafts.RecordDraft.TheVariants as RecordOf;
-ghost use Rattle.tsn_records.specs.Values.{AllFit, Fits, entries_of_gate, entries_of_port, flag_in, most_members, number_in, number_or_none_in, typed, value_at};
+ghost use Rattle.tsn_records.specs.Values.{entries_of_gate, entries_of_port, flag_in, most_members, number_in, number_or_none_in, typed, value_at};
 
 use crate::drafts::{
     FilterDraft, GateDraft, GateEntryDraft, MemberDraft, MeterDraft, PortDraft, PortEntryDraft,

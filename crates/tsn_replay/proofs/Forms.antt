@@ -1,8 +1,7 @@
 -- A turn at what is kept of a command is one at the command, and what is recorded of it is what is kept.
-use Rattle.std.proofs.Common.{◌≡◌, ◌≤◌, ℕ, Bool, true, false, cond, refl, sym, ◌∙◌, ap, subst, List, [], ◌∷◌, ◌++◌, append_assoc, Option, Some, None, inl, inr, length}
+use Rattle.std.proofs.Common.{◌≡◌, ◌≤◌, ℕ, Bool, true, false, cond, refl, sym, ◌∙◌, ap, subst, List, [], ◌∷◌, ◌++◌, append_assoc, Option, Some, None, inl, inr, length, append-nil}
 use Rattle.tsn_types.specs.declared.refusals.Refusal.{Refusal}
 use Rattle.tsn_types.specs.declared.refusals.Refusal.TheVariants.{TooLong}
-use Rattle.tsn_journal.proofs.Numbers.{append_nil}
 use Rattle.tsn_bridge.specs.declared.command.Ask.{Ask}
 use Rattle.tsn_bridge.specs.declared.command.Command.{Command}
 use Rattle.tsn_bridge.specs.declared.command.Command.TheVariants as commands
@@ -71,7 +70,7 @@ module _ (line : Ask → List ℕ) (most : ℕ) (ask : Ask) (reply : Reply) (ran
   unrecorded old new handles same none = record {
     ranges = ranges;
     handles = handles;
-    grows = same ∙ sym (append_nil old.text) ∙ ap (λ o. old.text ++ text_of line o) (sym none);
+    grows = same ∙ sym (append-nil old.text) ∙ ap (λ o. old.text ++ text_of line o) (sym none);
     has_line = subst (HasLine line most) (sym none) tt;
   }
 

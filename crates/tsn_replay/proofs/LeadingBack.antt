@@ -26,6 +26,7 @@ use Rattle.tsn_replay.proofs.Carrying.{beside}
 use Rattle.tsn_replay.proofs.Alike.{each_alike}
 use Rattle.tsn_replay.proofs.Exact.{IsExact, keeps_exact}
 use Rattle.tsn_replay.proofs.Recorded.{IsTold, accepts, each_told, still_passes}
+use Rattle.tsn_bridge.proofs.Reaching.{led_on}
 
 -- ---- one step alone: where a command may be accepted, it may else only be refused for want of memory
 
@@ -264,11 +265,6 @@ comes_of (t ∷ ts) s now (between, step, on) = (between, step, comes_of ts betw
 
 -- ---- over many starts
 
-pub joined : (front more : List Answered) (s between now : State) → Leads s front between → Leads between more now
-    → Leads s (front ++ more) now
-joined [] more s between now same on = subst (λ (x : State). Leads x more now) same on
-joined (t ∷ front) more s between now (next, step, rest) on = (next, step, joined front more next between now rest on)
-
 both_records : (front more : List Answered) → AreRecorded front → AreRecorded more → AreRecorded (front ++ more)
 both_records [] more h k = k
 both_records (t ∷ front) more h k = (h.0, both_records front more h.1 k)
@@ -280,7 +276,7 @@ goes_further turn within start file s asks now r comes =
     let more = reaches turn within asks s r.reached now r.resumes comes in
     record {
       reached = more.reached;
-      leads = joined file (all_recorded asks) start r.reached more.reached r.leads more.leads;
+      leads = led_on file (all_recorded asks) start r.reached more.reached r.leads more.leads;
       are = both_records file (all_recorded asks) r.are more.are;
       resumes = more.resumes;
       exact = λ e. more.exact (r.exact e);

@@ -28,10 +28,11 @@ use Rattle.tsn_bridge.specs.Rule.{Allows, may_change}
 use Rattle.tsn_bridge.specs.State.{State}
 use Rattle.tsn_bridge.proofs.Later.{all_go_on, whole_begun}
 use Rattle.tsn_replay.specs.Lasting.{Lasting, Resumes}
-use Rattle.tsn_replay.specs.Recording.{AreRecorded, all_recorded, instant_told, is_accepted, kept, with_reply, act_command}
+use Rattle.tsn_replay.specs.Recording.{AreRecorded, all_recorded, instant_told, kept, with_reply}
 use Rattle.tsn_replay.specs.Replaying.{Comes, LeadsBack, Turn}
 use Rattle.tsn_replay.proofs.Recorded.{AHello, AnAct, Itself, KeptAs, kept_as, told_at}
 use Rattle.tsn_replay.proofs.LeadingBack.{AreWithin, itself, reaches}
+use Rattle.tsn_bridge.specs.Families.{act_command}
 
 -- ---- acts before a time that frames had moved
 

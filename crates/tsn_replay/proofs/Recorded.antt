@@ -2,7 +2,6 @@
 use Rattle.std.proofs.Common.{◌≡◌, ℕ, Bool, true, false, ◌≤◌, ◌+◌, arith, List, [], ◌∷◌, ◌++◌, refl, sym, ◌∙◌, ap, subst, cond, Option, Some, None, inl, inr, length}
 use Rattle.std.specs.Prelude.{◌⊎◌, option_map}
 use Rattle.tsn_types.specs.declared.keys.Key.{Key}
-use Rattle.tsn_types.specs.declared.refusals.Refusal.{Refusal}
 use Rattle.tsn_edit.proofs.KeyFacts.{by_option}
 use Rattle.tsn_journal.specs.declared.entries.Act.{Act as Asked}
 use Rattle.tsn_journal.specs.declared.entries.Act.TheVariants as asked
@@ -18,7 +17,7 @@ use Rattle.tsn_bridge.specs.declared.command.Command.TheVariants as commands
 use Rattle.tsn_bridge.specs.declared.reply.Reply.{Reply}
 use Rattle.tsn_bridge.specs.declared.reply.Reply.TheVariants as replies
 use Rattle.tsn_bridge.specs.Acts.{act_causes, act_change, act_rule, instant, list_causes}
-use Rattle.tsn_bridge.specs.Families.{Acting, Counting, Family, Framing, Greeting, Looking, family, seen_by_looks}
+use Rattle.tsn_bridge.specs.Families.{Acting, Counting, Family, Framing, Greeting, Looking, family, seen_by_looks, act_command}
 use Rattle.tsn_bridge.specs.Frames.{acts_of_gates, frame_rule, framed_state}
 use Rattle.tsn_bridge.specs.Histories.{Answered, Answers}
 use Rattle.tsn_bridge.specs.Machine.{Goes, Step}
@@ -28,7 +27,7 @@ use Rattle.tsn_bridge.proofs.AtOnce.{done_of}
 use Rattle.tsn_bridge.proofs.Families.{IsStill, done_each, leaves, looked, outcome, reply_of}
 use Rattle.tsn_replay.specs.Answering.{IsFromLasting, IsFromLastingIn}
 use Rattle.tsn_replay.specs.Lasting.{lasting}
-use Rattle.tsn_replay.specs.Recording.{act_command, instant_told, is_accepted, kept, kept_in, recorded, with_reply}
+use Rattle.tsn_replay.specs.Recording.{instant_told, is_accepted, kept, kept_in, recorded, with_reply}
 
 -- ---- what is kept of a command
 

@@ -1,16 +1,13 @@
 -- What is recorded of what sessions asked and were answered: each accepted command that changes what lasts.
 use Rattle.std.specs.Prelude.{◌≡◌, ℕ, Bool, true, false, List, Option, Some, None, map, option_map, if◌then◌else◌}
 use Rattle.std.specs.List.{AllByRecursion, filter_map}
-use Rattle.tsn_types.specs.declared.keys.Key.{Key}
-use Rattle.tsn_journal.specs.declared.entries.Act.{Act as Asked}
-use Rattle.tsn_journal.specs.declared.entries.Act.TheVariants as asked
 use Rattle.tsn_bridge.specs.declared.command.Ask.{Ask}
 use Rattle.tsn_bridge.specs.declared.command.Command.{Command}
 use Rattle.tsn_bridge.specs.declared.command.Command.TheVariants as commands
 use Rattle.tsn_bridge.specs.declared.reply.Reply.{Reply}
 use Rattle.tsn_bridge.specs.declared.reply.Reply.TheVariants.{Acted, Refused}
 use Rattle.tsn_bridge.specs.Acts.{instant}
-use Rattle.tsn_bridge.specs.Families.{Acting, Counting, Family, Framing, Greeting, Looking, family}
+use Rattle.tsn_bridge.specs.Families.{Acting, Counting, Family, Framing, Greeting, Looking, family, act_command}
 use Rattle.tsn_bridge.specs.Histories.{Answered}
 use Rattle.tsn_bridge.specs.Rule.{may_change}
 use Rattle.tsn_bridge.specs.State.{State}
@@ -32,12 +29,6 @@ counted_in s f = 0
 
 abbrev pub counted : State → Command → ℕ
 counted s command = counted_in s (family command)
-
--- an act on a key at an instant, as a command
-abbrev pub act_command : Asked → Key → ℕ → Command
-act_command asked.Enable k now = commands.Enable k now
-act_command asked.Disable k now = commands.Disable k now
-act_command asked.Apply k now = commands.Apply k now
 
 -- What is kept of a session's command, once it was accepted: a hello of no session, an act at the instant that counted, any other
 -- command that changes what lasts as it is; of a look and of a frame nothing.

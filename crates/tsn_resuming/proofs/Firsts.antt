@@ -1,24 +1,23 @@
 -- The first command of a text reads back as that text, and is a command that fits a first line.
-use Rattle.std.proofs.Common.{◌≡◌, ◌≢◌, ℕ, ◌+◌, ◌*◌, ◌/◌, ◌%◌, ◌≤◌, ◌==◌, ◌||◌, nat_lt, Bool, true, false, cond, List, [], ◌∷◌, ◌++◌, length, None, Some, Ok, codes, IsUtf8, refl, sym, ap, ◌∙◌, subst, arith, length-append}
+use Rattle.std.proofs.Common.{◌≡◌, ◌≢◌, ℕ, ◌+◌, ◌*◌, ◌/◌, ◌%◌, ◌≤◌, ◌==◌, ◌||◌, true, cond, List, [], ◌∷◌, ◌++◌, length, None, Some, Ok, codes, IsUtf8, refl, sym, ap, ◌∙◌, subst, arith, length-append}
 use Rattle.std.specs.Prelude.{All}
 use Rattle.std.specs.Str.{is_utf8}
 use Rattle.std.specs.Fmt.{digits}
-use Rattle.std.specs.Char.{digit_char}
-use Rattle.std.proofs.lemmas.Bool.{ltb-false}
-use Rattle.std.proofs.lemmas.List.Elements.{All-append, All-cons, All-nil}
+use Rattle.std.proofs.lemmas.List.Elements.{All-append}
 use Rattle.std.proofs.lemmas.Str.{IsUtf8-append, IsUtf8-from_is_utf8, is_utf8-from_IsUtf8}
-use Rattle.json.specs.Print.{escape, escape_byte, escape_letter, quoted}
+use Rattle.json.specs.Print.{escape, escape_byte, quoted}
 use Rattle.json.proofs.Printed.Utf8.{IsUtf8-are_ascii, IsUtf8-quoted}
 use Rattle.serde_json.specs.Read.{read}
 use Rattle.serde_json.proofs.OnLiterals.{serde_json_on_literals}
 use Rattle.tsn_setup.specs.Setups.{longest_setup}
-use Rattle.tsn_recorded.specs.Text.{line_feed, longest_first_command}
+use Rattle.tsn_recorded.specs.Text.{longest_first_command}
 use Rattle.tsn_wire.proofs.Backs.{IsPlain, read_back}
 use Rattle.tsn_replies.proofs.Escapes.{byte_within}
 use Rattle.tsn_spelling.proofs.Feeds.{IsNoFeed, quoted_no_feed}
 use Rattle.tsn_wire.proofs.Visible.{no_feed}
 use Rattle.tsn_wire.specs.Reading.{data_of}
 use Rattle.tsn_resuming.specs.First.{first_data, first_text, setup_in, setup_of_data, setup_of_read}
+use Rattle.tsn_spelling.proofs.Shortest.{quoted_long}
 
 abbrev front : List ℕ
 front = codes "{\"journal\":2,\"setup\":"
@@ -57,9 +56,6 @@ escape_within : (s : List ℕ) → length (escape s) ≤ 6 * length s
 escape_within [] = omega arith
 escape_within (x ∷ s) = omega (arith, escape_within s, byte_within x, length-append (escape_byte x) (escape s))
 
-quoted_length : (s : List ℕ) → length (quoted s) ≡ length (escape s) + 2
-quoted_length s = omega (arith, length-append (escape s) (34 ∷ []))
-
 pub first_within : (setup : List ℕ) → length setup ≤ longest_setup → length (first_text setup) ≤ longest_first_command
 first_within setup h =
     omega (
@@ -67,7 +63,7 @@ first_within setup h =
       ap length (first_pieces setup),
       length-append front (quoted setup ++ codes "}"),
       length-append (quoted setup) (codes "}"),
-      quoted_length setup,
+      quoted_long setup,
       escape_within setup,
     )
 

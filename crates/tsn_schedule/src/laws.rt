@@ -2,16 +2,15 @@
 //! them. Their bodies are empty.
 ghost use Rattle.std.specs.Prelude.{◌≡◌, ◌-◌, ◌%◌, ◌≤◌, ◌<◌, ℕ, Some, None, true, false, List, [], ◌∷◌, MatchOption};
 ghost use Rattle.std.specs.Option.{option_map};
-ghost use Rattle.tsn_schedule.specs.Acts.{Act, Enable, Disable, Apply, IsHistory, last_instant};
+ghost use Rattle.tsn_schedule.specs.Acts.{Act, Enable, Apply, IsHistory, last_instant};
 ghost use Rattle.tsn_schedule.specs.Entries.{entry_at, earlier_at};
-ghost use Rattle.tsn_schedule.specs.Examples.{plan, one_two, open_shut, gates_at, began_at, ahead, with_cycle, extended, second, third, replaced, restored, ahead_again, disabled, enabled, gate_list, gate_acts, gate_states, gate_begins};
+ghost use Rattle.tsn_schedule.specs.Examples.{plan, one_two, open_shut, gates_at, began_at, ahead, with_cycle, extended, second, third, replaced, restored, ahead_again, disabled, enabled, gate_acts, gate_states, gate_begins};
 ghost use Rattle.tsn_schedule.specs.Meaning.{IsChangeTime, IsLatestStart, IsEntryAt};
 ghost use Rattle.tsn_schedule.specs.Refusing.{apply_refusal};
 ghost use Rattle.tsn_schedule.specs.Counters.{change_in, errors_in, past_bases, is_pending, greatest_count};
 ghost use Rattle.tsn_schedule.specs.Starts.{Start, in_force};
 ghost use Rattle.tsn_schedule.specs.States.{cycle_start, state_in};
 ghost use Rattle.tsn_schedule.specs.Times.{change_of};
-ghost use Rattle.tsn_types.specs.declared.records.GateEntry.{GateEntry as AnyGateEntry};
 ghost use Rattle.tsn_types.specs.declared.records.PortEntry.{PortEntry as AnyPortEntry};
 ghost use Rattle.tsn_types.specs.declared.records.Schedule.{Schedule as AnySchedule};
 ghost use Rattle.tsn_types.specs.declared.refusals.Refusal.TheVariants.{NotEnabled, EmptyList};

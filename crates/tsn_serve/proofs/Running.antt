@@ -5,7 +5,8 @@ use Rattle.tsn_bytes.specs.declared.bytes.Fault.{Fault}
 use Rattle.tsn_serve.specs.Lines.{line_feed, longest_line, HasNoLineFeed, Splits, with_line_feed, short_line, short_line_with}
 use Rattle.tsn_serve.specs.Script.{Answering, Breaking, Run, AreFirst, BrokenScript}
 use Rattle.tsn_serve.specs.Pieces.{Going, Feeds, Ends, Breaks, EndBreaks}
-use Rattle.tsn_serve.proofs.Cutting.{all_more, short_line_short, short_line_with_is, splits_at_feed, splits_on, short_line_nil, last_of_kept}
+use Rattle.tsn_serve.proofs.Cutting.{short_line_short, short_line_with_is, splits_at_feed, splits_on, short_line_nil, last_of_kept}
+use Rattle.tsn_wire.proofs.Spelling.{all_more}
 
 -- one line more at the end of a run
 pub run_more : {S : Type 0} (answers : Answering S) (old : S) (lines : List (List ℕ)) (text : List ℕ) (mid : S) (line reply : List ℕ)

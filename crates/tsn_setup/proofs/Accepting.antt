@@ -1,5 +1,5 @@
 -- A text is accepted as a setup exactly where it is a document of it.
-use Rattle.std.proofs.Common.{◌≡◌, ℕ, zero, suc, ◌<◌, ◌≤◌, ◌||◌, List, [], ◌∷◌, ◌++◌, length, map, slice_index_or, Bool, true, false, nat_le, cond, if◌then◌else◌, Option, Some, None, option_map, Ok, Err, IfSome, bytes_eq, refl, sym, ap, ap₂, subst, ◌∙◌, arith, leb-true, append_assoc}
+use Rattle.std.proofs.Common.{◌≡◌, ℕ, zero, suc, ◌<◌, ◌≤◌, ◌||◌, List, [], ◌∷◌, ◌++◌, length, map, slice_index_or, Bool, true, false, nat_le, cond, if◌then◌else◌, Option, Some, None, option_map, Ok, Err, IfSome, bytes_eq, refl, sym, ap, ap₂, subst, ◌∙◌, arith, leb-true, append_assoc, append-nil}
 use Rattle.std.specs.Prelude.{Contains, IsSome, IsSomeAnd}
 use Rattle.std.specs.Str.{is_utf8}
 use Rattle.std.proofs.lemmas.Bool.{le-leb}
@@ -24,11 +24,12 @@ use Rattle.tsn_setup.specs.declared.drafts.LimitsDraft.{LimitsDraft}
 use Rattle.tsn_setup.specs.declared.drafts.TableDraft.{TableDraft}
 use Rattle.tsn_setup.proofs.Keyed.{keyed_draft, records_back}
 use Rattle.tsn_setup.proofs.LimitsGiven.{LimitsThere, limits_there, limits_read}
-use Rattle.tsn_setup.proofs.OfKind.{InRange, AllOf, KindThere, kind_there, kind_read, all_joined, same_kind, picked, of_joined, of_kind_in_range, of_kind_of, nothing_more, each_split, drafts_joined}
+use Rattle.tsn_setup.proofs.OfKind.{InRange, AllOf, KindThere, kind_there, kind_read, same_kind, picked, of_joined, of_kind_in_range, of_kind_of, each_split, drafts_joined}
 use Rattle.tsn_setup.proofs.Ordered.{IsOrdered, text_ordered}
 use Rattle.tsn_records.proofs.Steps.{steps, only, syntax_there, not_refused}
 use Rattle.tsn_records.proofs.NameOrder.{same_bytes, same_text}
 use Rattle.tsn_setup.proofs.Rows.{is_among, members_have, all_among}
+use Rattle.tsn_bridge.proofs.Later.{all_joined}
 
 -- ---- the tables of a document
 
@@ -84,9 +85,9 @@ four_there d p f g m ports filters gates meters =
     let whole : List (Key × Record) = p ++ (f ++ (g ++ m)) in
     let four : FourKinds p f g m = record
     { ports_are = ports.kinds_are; filters_are = filters.kinds_are; gates_are = gates.kinds_are; meters_are = meters.kinds_are } in
-    let a : of_kind kinds.Port whole ≡ p = of_four kinds.Port p f g m four ∙ nothing_more p in
-    let b : of_kind kinds.Filter whole ≡ f = of_four kinds.Filter p f g m four ∙ nothing_more f in
-    let c : of_kind kinds.Gate whole ≡ g = of_four kinds.Gate p f g m four ∙ nothing_more g in
+    let a : of_kind kinds.Port whole ≡ p = of_four kinds.Port p f g m four ∙ append-nil p in
+    let b : of_kind kinds.Filter whole ≡ f = of_four kinds.Filter p f g m four ∙ append-nil f in
+    let c : of_kind kinds.Gate whole ≡ g = of_four kinds.Gate p f g m four ∙ append-nil g in
     let e : of_kind kinds.Meter whole ≡ m = of_four kinds.Meter p f g m four in
     record {
       kinds_are = λ q. by_kind (HasKind d whole) (has_kind d whole p kinds.Port ports a) (has_kind d whole f kinds.Filter filters b)

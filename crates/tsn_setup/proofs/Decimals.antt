@@ -1,10 +1,10 @@
 -- Digits at the front of a text are a number of TOML.
-use Rattle.std.proofs.Common.{◌≡◌, ℕ, ◌+◌, ◌<◌, ◌^◌, pos, List, [], ◌∷◌, ◌++◌, Bool, true, false, ◌==◌, length, get_or, take, decimal, cond, suc, Some, Result, Ok, Err, rules, get_or-take, refl, sym, ap, ◌∙◌, arith}
+use Rattle.std.proofs.Common.{◌≡◌, ℕ, ◌+◌, ◌<◌, ◌^◌, pos, List, [], ◌∷◌, ◌++◌, Bool, true, false, ◌==◌, length, get_or, take, decimal, cond, suc, Some, Result, Ok, Err, get_or-take, refl, sym, ap, ◌∙◌, arith}
 use Rattle.std.proofs.lemmas.Bool.{and_parts}
 use Rattle.std.proofs.lemmas.Bool.Decides.{nat_tests}
 use Rattle.std.proofs.lemmas.Fmt.{decimal-digits_value}
 use Rattle.std.proofs.lemmas.List.Folds.{length-prefix_len}
-use Rattle.std.proofs.lemmas.Str.Parse.{IsDigitsTest, IsNumeralModel, numerals_by_value, parse_digits}
+use Rattle.std.proofs.lemmas.Str.Parse.{parse_digits}
 use Rattle.std.specs.Char.{is_ascii_digit}
 use Rattle.std.specs.List.{prefix_len, list_all}
 use Rattle.std.specs.Result.{OkIff, result_ok}
@@ -17,12 +17,7 @@ use Rattle.toml.specs.Data.{integer}
 use Rattle.toml.specs.Parse.{atom, val}
 use Rattle.toml.proofs.Turns.{val_atom}
 use Rattle.tsn_setup.specs.PlainNumbers.{EndsWord}
-
-digits_test : IsDigitsTest (λ ds. list_all is_ascii_digit ds ≡ true)
-digits_test = search rules
-
-own : IsNumeralModel (λ ds. list_all is_ascii_digit ds ≡ true) (digits_value 10)
-own = numerals_by_value (λ ds. list_all is_ascii_digit ds ≡ true) digits_test
+use Rattle.tsn_records.proofs.Digits.{own}
 
 run_at : (b : Bool) (p : ℕ → Bool) (x : ℕ) (xs : List ℕ) → p x ≡ b → list_all p (take (prefix_len p xs) xs) ≡ true
     → list_all p (take (cond b (1 + prefix_len p xs) 0) (x ∷ xs)) ≡ true

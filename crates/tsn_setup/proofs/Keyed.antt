@@ -26,7 +26,7 @@ use Rattle.tsn_setup.specs.Values.{table_with, tables_of, record_rows, keyed_row
 use Rattle.tsn_setup.specs.declared.drafts.TableDraft.{TableDraft}
 use Rattle.tsn_setup.proofs.Ordered.{IsOrdered, EachOrdered}
 use Rattle.tsn_records.proofs.RecordsRead.{InRangeOf, record_read}
-use Rattle.tsn_records.proofs.RecordRanges.{passed, at_most, within_ok, at_most_ok, port_back, filter_back, gate_back, meter_back}
+use Rattle.tsn_records.proofs.RecordRanges.{passed, within_ok, at_most_ok, port_back, filter_back, gate_back, meter_back, instance_passed}
 use Rattle.tsn_records.proofs.Steps.{last_step, only, steps}
 use Rattle.tsn_records.proofs.Shapes.{record_has}
 use Rattle.tsn_setup.proofs.Shapes.{number_got, table_is, table_shaped}
@@ -47,22 +47,16 @@ not_id (Err e) k h = cc
 abbrev IsKeyOf : Kind → ℕ → Record → Key → Type 0
 IsKeyOf q id r k = (id ≡ number_of k) × KeyedInRange k r × (kind k ≡ q)
 
-instance_read : (id : ℕ) (k : Key) (P : Key → Type 0) (of : ℕ → Key)
-    → (within fields.Key 0 greatest_instance id >>= λ n. Ok (of n)) ≡ Ok k → ((n : ℕ) → id ≡ n → n ≤ greatest_instance → P (of n)) → P k
-instance_read id k P of h holds =
-    last_step (within fields.Key 0 greatest_instance id) k P of h (λ n is.
-    let fits = at_most fields.Key greatest_instance id n is in holds n fits.0 fits.1)
-
 key_read : (q : Kind) (id : ℕ) (k : Key) (r : Record) → InRangeOf q r → key_of_kind q id ≡ Ok k → IsKeyOf q id r k
 key_read kinds.Port id k (records.Port r) held h =
     last_step (within fields.Key 1 most_ports id) k (IsKeyOf kinds.Port id (records.Port r)) keys.Port h (λ n is.
     let fits = passed fields.Key 1 most_ports id n is in (fits.0, (fits.1, held), refl))
 key_read kinds.Filter id k (records.Filter r) held h =
-    instance_read id k (IsKeyOf kinds.Filter id (records.Filter r)) keys.Filter h (λ n same fits. (same, (fits, held), refl))
+    instance_passed id k (IsKeyOf kinds.Filter id (records.Filter r)) keys.Filter h (λ n same fits. (same, (fits, held), refl))
 key_read kinds.Gate id k (records.Gate r) held h =
-    instance_read id k (IsKeyOf kinds.Gate id (records.Gate r)) keys.Gate h (λ n same fits. (same, (fits, held), refl))
+    instance_passed id k (IsKeyOf kinds.Gate id (records.Gate r)) keys.Gate h (λ n same fits. (same, (fits, held), refl))
 key_read kinds.Meter id k (records.Meter r) held h =
-    instance_read id k (IsKeyOf kinds.Meter id (records.Meter r)) keys.Meter h (λ n same fits. (same, (fits, held), refl))
+    instance_passed id k (IsKeyOf kinds.Meter id (records.Meter r)) keys.Meter h (λ n same fits. (same, (fits, held), refl))
 key_read q id k r held h = absurd held
 
 entry_read : (q : Kind) (d : Data) (id : ℕ) (value : RecordDraft) (k : Key) (r : Record) → IsOrdered d → number_at (codes "id") d ≡ Ok id

@@ -32,10 +32,6 @@ InRange es = AllByRecursion (λ e. KeyedInRange e.0 e.1) es
 abbrev pub AllOf : Kind → List (Key × Record) → Type 0
 AllOf q es = AllByRecursion (λ e. kind e.0 ≡ q) es
 
-pub all_joined : {A : Type 0} (P : A → Type 0) (xs ys : List A) → AllByRecursion P xs → AllByRecursion P ys → AllByRecursion P (xs ++ ys)
-all_joined P [] ys h g = g
-all_joined P (x ∷ xs) ys h g = (h.0, all_joined P xs ys h.1 g)
-
 its_own : (k : Key) → is_of (kind k) k ≡ true
 its_own (keys.Port n) = refl
 its_own k = refl
@@ -101,10 +97,6 @@ pub of_joined : (q : Kind) (xs ys : List (Key × Record)) → of_kind q (xs ++ y
 of_joined q [] ys = refl
 of_joined q (x ∷ xs) ys =
     ap (λ l. cond (is_of q x.0) (x ∷ l) l) (of_joined q xs ys) ∙ joined_at (is_of q x.0) x (of_kind q xs) (of_kind q ys)
-
-pub nothing_more : {A : Type 0} (xs : List A) → xs ++ [] ≡ xs
-nothing_more [] = refl
-nothing_more (x ∷ xs) = ap (λ l. x ∷ l) (nothing_more xs)
 
 kept_at : {A : Type 0} (P : A → Type 0) (b : Bool) (x : A) (xs : List A) → (b ≡ true → P x) → AllByRecursion P xs
     → AllByRecursion P (cond b (x ∷ xs) xs)

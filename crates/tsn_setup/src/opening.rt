@@ -17,9 +17,5 @@ pub fn bridge_of(alloc: Global, text: &[u8]) -> Result<Bridge, Refusal>
     ensures new { IfOk result IsNew }
     ensures sound { IfOk result IsOpened }
 {
-    let setup = match setup_of(alloc, text) {
-        Ok(setup) => setup,
-        Err(why) => return Err(why),
-    };
-    Bridge::new(alloc, setup)
+    Bridge::new(alloc, setup_of(alloc, text)?)
 }

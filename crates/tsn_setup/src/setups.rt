@@ -2,7 +2,6 @@
 //!
 //! The document's length is tested before its syntax, the whole shape before the ranges. A bridge that begins with the
 //! setup tests what is left.
-ghost use Rattle.std.specs.Prelude.{◌≡◌};
 ghost use Rattle.toml.specs.View.{view};
 ghost use Rattle.tsn_records.specs.Answers.{Reads, IsOrMemory, or_syntax, seen};
 ghost use Rattle.tsn_setup.specs.Setups.{document_of, setup_shape, setup_of_draft, reading, setup_of};

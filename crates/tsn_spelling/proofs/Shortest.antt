@@ -259,7 +259,7 @@ mutual
 
 -- ---- its text takes just that
 
-quoted_long : (s : List ℕ) → length (quoted s) ≡ length (escape s) + 2
+pub quoted_long : (s : List ℕ) → length (quoted s) ≡ length (escape s) + 2
 quoted_long s = omega (arith, length-append (escape s) (34 ∷ []))
 
 boolean_long : (b : Bool) → length (compact_text (values.boolean b)) ≡ token_weight (boolean b)

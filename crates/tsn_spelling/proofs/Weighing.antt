@@ -117,10 +117,6 @@ then : (w n : ℕ) (f : ℕ → Option (List ℕ)) (o : Option ℕ) → ((u : �
 then w n f None h = tt
 then w n f (Some u) h = h u refl
 
-fewer : (w m n : ℕ) (r : Option (List ℕ)) → Fits w m r → m ≤ n → Fits w n r
-fewer w m n None h le = tt
-fewer w m n (Some s) h le = omega arith
-
 longer : (w m n : ℕ) (a : List ℕ) (r : Option (List ℕ)) → Fits w m r → length (escape a) + m ≤ n → Fits w n (prepend a r)
 longer w m n a None h le = tt
 longer w m n a (Some s) h le = omega (arith, ap length (escape_joined a s), length-append (escape a) (escape s))

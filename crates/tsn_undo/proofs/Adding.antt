@@ -1,5 +1,5 @@
 -- An entry that applies a change that fits keeps a journal sound, and so do one that applies none and one that settles.
-use Rattle.std.proofs.Common.{◌≡◌, ℕ, ◌+◌, false, cond, refl, not, List, [], ◌∷◌, ◌++◌, sym, ◌∙◌, ap, subst, Option, Some, None, length, arith}
+use Rattle.std.proofs.Common.{◌≡◌, ℕ, ◌+◌, false, cond, refl, not, List, [], ◌∷◌, ◌++◌, sym, ◌∙◌, ap, subst, Option, Some, None, length, arith, append-nil}
 use Rattle.std.specs.Prelude.{filter, nat_le, option_map}
 use Rattle.std.specs.List.{cons_option}
 use Rattle.tsn_edit.specs.Parts.{Change}
@@ -13,7 +13,7 @@ use Rattle.tsn_journal.specs.declared.entries.Entry.{Entry}
 use Rattle.tsn_journal.specs.declared.entries.What.TheVariants.{Settled}
 use Rattle.tsn_journal.specs.Entries.{Applied, IsNoSettle, adds, applies, changes, collect, settled_edits, standing, with_entry}
 use Rattle.tsn_journal.proofs.Marking.{IsNumbered-with_entry}
-use Rattle.tsn_journal.proofs.Numbers.{append_nil, changes-append, collect_push, rises_standing, standing_push, undoes_number}
+use Rattle.tsn_journal.proofs.Numbers.{changes-append, collect_push, rises_standing, standing_push, undoes_number}
 use Rattle.tsn_journal.proofs.Settling.{settled_kept, settled_more, split_at}
 use Rattle.tsn_undo.specs.Soundness.{IsSound, base, configuration}
 
@@ -32,7 +32,7 @@ applied_push es s w e apply = grind (arith, collect_push, changes-append)
 
 pub nothing_push : (es : List Entry) (s : ℕ) (w : What) → applies w ≡ None
     → changes (collect applies (with_entry es s w)) ≡ changes (collect applies es)
-nothing_push es s w none = grind (arith, collect_push, append_nil)
+nothing_push es s w none = grind (arith, collect_push, append-nil)
 
 pub configuration_push : (opening : Configuration) (es : List Entry) (s : ℕ) (w : What) (e : Change) → applies w ≡ Some e
     → configuration opening (with_entry es s w) ≡ after_change (configuration opening es) e
@@ -103,7 +103,7 @@ module _ (l : Limits) (opening : Configuration) (es : List Entry) (s : ℕ) (w :
   sound_quiet add apply =
       let log = nothing_push es s w apply in
       let stands : changes (standing (with_entry es s w)) ≡ changes (standing es) =
-      ap changes (standing_kept es s w takes_none ∙ ap (λ o. standing es ++ one es s o) add ∙ append_nil (standing es)) in
+      ap changes (standing_kept es s w takes_none ∙ ap (λ o. standing es ++ one es s o) add ∙ append-nil (standing es)) in
       record {
         numbered = IsNumbered-with_entry es s w sound.numbered;
         kept = sound.kept;
@@ -127,7 +127,7 @@ module _ (l : Limits) (opening : Configuration) (es : List Entry) (s upto : ℕ)
   settled_now = settled_more 1 es (next es s (Settled upto)) upto refl sound.numbered
 
   pub left_now : standing (with_entry es s (Settled upto)) ≡ left
-  left_now = standing_push es (next es s (Settled upto)) ∙ append_nil left
+  left_now = standing_push es (next es s (Settled upto)) ∙ append-nil left
 
   both : changes (standing es) ≡ changes final ++ changes left
   both = ap changes (split_at 1 upto (standing es) (rises_standing es sound.numbered)) ∙ changes-append final left

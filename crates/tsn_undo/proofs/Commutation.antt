@@ -1,5 +1,5 @@
 -- Taking a closed set of changes out of a good run.
-use Rattle.std.proofs.Common.{◌≡◌, Bool, true, false, cond, not, List, [], ◌∷◌, ◌++◌, refl, sym, ◌∙◌, ap, Option, append_assoc}
+use Rattle.std.proofs.Common.{◌≡◌, Bool, true, false, cond, not, List, [], ◌∷◌, ◌++◌, refl, sym, ◌∙◌, ap, Option, append_assoc, append-nil}
 use Rattle.std.specs.Prelude.{flat_map, IsTrue}
 use Rattle.std.specs.FinMap.{get}
 use Rattle.std.specs.List.{AllByRecursion}
@@ -14,7 +14,6 @@ use Rattle.tsn_edit.specs.Runs.{run, IsGood}
 use Rattle.tsn_edit.proofs.KeyFacts.{before_or, by_bool, part_on}
 use Rattle.tsn_edit.proofs.Apart.{Agrees, Apart, Apart-append, Apart-from_test, agrees_left, agrees_taken, begin_agrees, fits_left}
 use Rattle.tsn_journal.specs.Entries.{Applied, changes}
-use Rattle.tsn_journal.proofs.Numbers.{append_nil}
 use Rattle.tsn_undo.specs.Commuting.{Commutes, IsClosed, first_on, in_set, left, value_before}
 
 apart_from_closed : (out : Applied → Bool) (x y : Applied) → (IsTrue (conflicts y.change x.change) → IsTrue (out y)) → out y ≡ false
@@ -31,7 +30,7 @@ pub record IsLeft (l : Limits) (c d : Configuration) (t : List Part) (out : Appl
 pub left_from : (l : Limits) (out : Applied → Bool) (xs : List Applied) (c d : Configuration) (t : List Part) → Agrees l c d t
     → AllByRecursion (λ y. out y ≡ false → Apart (parts y.change) t) xs → IsClosed out xs → IsGood l c (changes xs) → IsLeft l c d t out xs
 left_from l out [] c d t a apart closed good =
-    record { good = tt; ends = λ k. a.agree k ∙ ap (λ u. before_or (part_on k u) (get c k)) (sym (append_nil t)) }
+    record { good = tt; ends = λ k. a.agree k ∙ ap (λ u. before_or (part_on k u) (get c k)) (sym (append-nil t)) }
 left_from l out (x ∷ xs) c d t a apart closed good =
     let goes : List Applied → List Applied → Type 0 = λ gone kept.
     IsGood l d (changes kept) × ((k : Key)

@@ -4,7 +4,7 @@ use Rattle.std.specs.Prelude.{◌==◌, ◌&&◌, filter, is_some, nat_lt}
 use Rattle.std.specs.Option.{option_or}
 use Rattle.std.proofs.lemmas.Bool.Decides.{nat_tests}
 use Rattle.std.proofs.lemmas.Bool.{not-true, ltb-true}
-use Rattle.tsn_journal.proofs.Grouping.{first_true}
+use Rattle.tsn_journal.proofs.Grouping.{first_true, second_true}
 use Rattle.tsn_types.specs.declared.refusals.Refusal.TheVariants.{Conflict}
 use Rattle.tsn_edit.specs.Changes.{after_change, conflicts}
 use Rattle.tsn_edit.specs.Parts.{inverse}
@@ -21,7 +21,7 @@ use Rattle.tsn_undo.specs.Steps.{TakesBack}
 use Rattle.tsn_undo.specs.UndoAll.{BlocksAll, undo_all_cause, undo_all_refusal}
 use Rattle.tsn_undo.proofs.Adding.{next}
 use Rattle.tsn_undo.proofs.Making.{SoundLedger, kept_now}
-use Rattle.tsn_undo.proofs.UndoAll.{in_filter, on_right, same_number, undo_all_refusal-first}
+use Rattle.tsn_undo.proofs.UndoAll.{in_filter, same_number, undo_all_refusal-first}
 
 -- ---- a conflict that is named
 
@@ -77,7 +77,7 @@ names_conflict b s own other sound h =
       is_other = ap (λ n. f.session == n) (sym session)
           ∙ not-true (f.session == e.session) (first_true (not (f.session == e.session)) _ theirs.passes);
       later = omega (arith, later, named.own_is, named.other_is);
-      conflict = on_right (not (f.session == e.session)) _ theirs.passes;
+      conflict = second_true (not (f.session == e.session)) _ theirs.passes;
     }
 
 -- ---- a redo right after an undo

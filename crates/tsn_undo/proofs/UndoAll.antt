@@ -1,5 +1,5 @@
 -- Taking back a session's standing entries, newest first.
-use Rattle.std.proofs.Common.{◌≡◌, ℕ, ◌+◌, Bool, true, false, cond, not, List, [], ◌∷◌, ◌++◌, refl, sym, ◌∙◌, ap, subst, Option, Some, None, arith, length, append_assoc, length-append, map, take, drop, ◌<◌, zero, suc, slice_index_or}
+use Rattle.std.proofs.Common.{◌≡◌, ℕ, ◌+◌, Bool, true, false, cond, not, List, [], ◌∷◌, ◌++◌, refl, sym, ◌∙◌, ap, subst, Option, Some, None, arith, length, append_assoc, length-append, map, take, drop, ◌<◌, zero, suc, slice_index_or, append-nil}
 use Rattle.std.proofs.lemmas.Grind.{common_steps}
 use Rattle.std.specs.Prelude.{◌==◌, ◌&&◌, IsTrue, filter, is_some, option_map}
 use Rattle.std.specs.List.{AllByRecursion}
@@ -20,7 +20,7 @@ use Rattle.tsn_journal.specs.declared.entries.What.{What}
 use Rattle.tsn_journal.specs.declared.entries.What.TheVariants.{Undone}
 use Rattle.tsn_journal.specs.Entries.{Applied, IsNumbered, changes, no_room, standing, undone, with_entry}
 use Rattle.tsn_journal.specs.Finding.{change_at, find_conflict, find_conflict_of_others, find_own_in_conflict, last_of, last_where, later_than, others_standing, own_standing}
-use Rattle.tsn_journal.proofs.Numbers.{Rises, append_nil, each_weaker, filter_none, last_where_none, last_where_some, later_than_rest, left_one, rises_standing}
+use Rattle.tsn_journal.proofs.Numbers.{Rises, filter_none, last_where_none, last_where_some, later_than_rest, left_one, rises_standing}
 use Rattle.tsn_journal.proofs.Standing.{standing_change, standing_placed}
 use Rattle.tsn_undo.specs.Commuting.{IsClosed}
 use Rattle.tsn_undo.specs.declared.book.TakingBack.{TakingBack}
@@ -32,6 +32,8 @@ use Rattle.tsn_undo.proofs.Free.{or_none}
 use Rattle.tsn_undo.proofs.Making.{SoundLedger}
 use Rattle.tsn_undo.proofs.Redone.{IsSplit}
 use Rattle.tsn_undo.proofs.Undoing.{IsPlace, IsUndoStep, undo_step}
+use Rattle.tsn_edit.proofs.Inverses.{each_weaker}
+use Rattle.tsn_journal.proofs.Grouping.{second_true}
 
 abbrev pub own : ℕ → Applied → Bool
 own s x = x.session == s
@@ -139,7 +141,7 @@ next_undo es s x numbered closed last =
           ∙ ap (λ zs. filter (own s) front ++ x ∷ zs) rest_none
           ∙ sym (ap (λ zs. filter (own s) zs ++ x ∷ []) gone
           ∙ ap (λ zs. zs ++ x ∷ []) (filter-append (own s) front rest ∙ ap (λ zs. filter (own s) front ++ zs) rest_none
-          ∙ append_nil (filter (own s) front)));
+          ∙ append-nil (filter (own s) front)));
     }
 
 -- ---- the entries after some were taken back, the last ones first
@@ -195,7 +197,7 @@ begin_taken l opening es s sound none = record { sound = sound; closed = own_clo
 
 pub taken_to : (l : Limits) (opening : Configuration) (es : List Entry) (s : ℕ) (xs ys : List Applied)
     → IsTaken l opening es s (xs ++ ys) [] → IsTaken l opening es s xs ys
-taken_to l opening es s xs [] t = subst (λ zs. IsTaken l opening es s zs []) (append_nil xs) t
+taken_to l opening es s xs [] t = subst (λ zs. IsTaken l opening es s zs []) (append-nil xs) t
 taken_to l opening es s xs (y ∷ ys) t =
     (next_taken l opening es s xs y ys
     (taken_to l opening es s (xs ++ y ∷ []) ys
@@ -222,15 +224,12 @@ pub record IsFreeOfAll (b : Ledger) (s : ℕ) : Type 0 where
 some_named : (n : ℕ) (o : Option Applied) → is_some o ≡ true → option_map (λ (f : Applied). Conflict n f.number) o ≡ None → ⊥
 some_named n o h none = grind arith
 
-pub on_right : (a b : Bool) → (a && b) ≡ true → b ≡ true
-on_right a b h = grind arith
-
 no_own_conflict : (es : List Entry) (s : ℕ) → conflict_with_others es (find_own_in_conflict es s) ≡ None → find_own_in_conflict es s ≡ None
 no_own_conflict es s free = by_option (find_own_in_conflict es s)
     (λ none. none)
     (λ e some.
     let found = last_where_some (λ x. (x.session == s) && is_some (find_conflict_of_others es x)) (standing es) e some in
-    absurd (some_named e.number (find_conflict_of_others es e) (on_right (e.session == s) _ found.passes)
+    absurd (some_named e.number (find_conflict_of_others es e) (second_true (e.session == s) _ found.passes)
     (sym (ap (conflict_with_others es) some) ∙ free)))
 
 cause_none : (es : List Entry) (s : ℕ) (xs : List Applied) → undo_all_cause es s xs ≡ None → find_own_in_conflict es s ≡ None

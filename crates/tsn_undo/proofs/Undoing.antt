@@ -1,5 +1,5 @@
 -- Taking back a standing entry that nothing later conflicts with keeps a journal sound.
-use Rattle.std.proofs.Common.{◌≡◌, ℕ, not, List, [], ◌∷◌, ◌++◌, sym, ◌∙◌, ap, subst, None, false, refl}
+use Rattle.std.proofs.Common.{◌≡◌, ℕ, not, List, [], ◌∷◌, ◌++◌, sym, ◌∙◌, ap, subst, None, false, refl, append-nil}
 use Rattle.std.specs.Prelude.{filter, ◌==◌}
 use Rattle.std.specs.List.{AllByRecursion}
 use Rattle.tsn_edit.specs.Parts.{Change, inverse}
@@ -12,7 +12,7 @@ use Rattle.tsn_journal.specs.declared.entries.Entry.{Entry}
 use Rattle.tsn_journal.specs.Entries.{Applied, applies, changes, collect, standing, undone, with_entry}
 use Rattle.tsn_journal.specs.Finding.{find_conflict, later_than}
 use Rattle.tsn_journal.proofs.Marking.{IsNumbered-with_entry}
-use Rattle.tsn_journal.proofs.Numbers.{append_nil, changes-append, Rises, rises_standing, last_where_none, later_than_rest, left_one, standing_push}
+use Rattle.tsn_journal.proofs.Numbers.{changes-append, Rises, rises_standing, last_where_none, later_than_rest, left_one, standing_push}
 use Rattle.tsn_journal.proofs.Settling.{settled_kept}
 use Rattle.tsn_undo.specs.Soundness.{IsSound, base, configuration}
 use Rattle.tsn_undo.proofs.Adding.{applied_push, base_kept, configuration_push, kept_base, next}
@@ -64,7 +64,7 @@ undo_step l opening es s x sound p none =
     let log = applied_push es s (undone x) (inverse x.change) refl in
     let after = configuration_push opening es s (undone x) (inverse x.change) refl in
     let stands : standing (with_entry es s (undone x)) ≡ filter (λ y. not (x.number == y.number)) (standing es) =
-    standing_push es (next es s (undone x)) ∙ append_nil (filter (λ y. not (x.number == y.number)) (standing es)) in
+    standing_push es (next es s (undone x)) ∙ append-nil (filter (λ y. not (x.number == y.number)) (standing es)) in
     let rest_is : changes (standing (with_entry es s (undone x))) ≡ changes p.front ++ changes p.rest =
     ap changes (stands ∙ ap (filter (λ y. not (x.number == y.number))) p.is ∙ left_one 1 p.front x p.rest rises)
     ∙ changes-append p.front p.rest in

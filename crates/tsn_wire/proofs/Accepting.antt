@@ -42,8 +42,8 @@ use Rattle.tsn_wire.specs.declared.drafts.FrameDraft.{FrameDraft}
 use Rattle.tsn_wire.specs.declared.drafts.LineDraft.{LineDraft}
 use Rattle.tsn_wire.specs.declared.drafts.LineDraft.TheVariants.{Hello, Named, Session}
 use Rattle.tsn_wire.specs.declared.drafts.NameDraft.TheVariants.{Fit, Unfit}
-use Rattle.tsn_wire.specs.declared.words.Act.{Act}
-use Rattle.tsn_wire.specs.declared.words.Act.TheVariants as acts
+use Rattle.tsn_journal.specs.declared.entries.Act.{Act}
+use Rattle.tsn_journal.specs.declared.entries.Act.TheVariants as acts
 use Rattle.tsn_wire.specs.declared.words.Bare.{Bare}
 use Rattle.tsn_wire.specs.declared.words.Bare.TheVariants as bares
 use Rattle.tsn_wire.specs.declared.words.Look.{Look}
@@ -52,7 +52,7 @@ use Rattle.tsn_wire.specs.declared.words.Put.{Put}
 use Rattle.tsn_wire.specs.declared.words.Put.TheVariants as puts
 use Rattle.tsn_wire.specs.declared.words.Word.{Word}
 use Rattle.tsn_wire.specs.declared.words.Word.TheVariants as words
-use Rattle.tsn_wire.specs.Words.{act_command, act_word, bare_command, bare_word, edit_command, look_command, look_word, put_edit, put_word, word_of, word_text}
+use Rattle.tsn_wire.specs.Words.{act_word, bare_command, bare_word, edit_command, look_command, look_word, put_edit, put_word, word_of, word_text}
 use Rattle.tsn_bridge.specs.declared.command.Ask.{Ask}
 use Rattle.tsn_records.proofs.RecordRanges.{passed, at_most, within_ok, at_most_ok}
 use Rattle.tsn_records.proofs.Steps.{last_step, only, steps, syntax_there, not_refused}
@@ -62,6 +62,7 @@ use Rattle.tsn_wire.proofs.FromShapes.{number_there, flag_there, text_there, val
 use Rattle.tsn_wire.proofs.Objects.{IsOrdered, whole_object, line_ordered}
 use Rattle.tsn_wire.proofs.ReadingBack.{in_steps}
 use Rattle.tsn_wire.proofs.Shaping.{shaped}
+use Rattle.tsn_bridge.specs.Families.{act_command}
 
 -- ---- what is accepted is a value
 

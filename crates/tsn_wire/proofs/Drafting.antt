@@ -1,13 +1,13 @@
 -- The edits of a batch and their drafts: the keys of the ones are apart exactly where those of the others are.
-use Rattle.std.proofs.Common.{◌≡◌, ℕ, suc, ◌==◌, true, false, ◌||◌, ◌&&◌, not, List, [], ◌∷◌, length, map, Ok, Ordering, Less, Equal, Greater, nat_cmp, is_eq, refl, sym, ap, ap₂, subst, ◌∙◌, eqb-true, eq-eqb}
-use Rattle.std.specs.List.{AllByRecursion, IsDistinct, list_any}
+use Rattle.std.proofs.Common.{◌≡◌, ℕ, suc, ◌==◌, true, ◌||◌, ◌&&◌, not, List, [], ◌∷◌, length, map, Ok, nat_cmp, is_eq, refl, sym, ap, ap₂, subst, ◌∙◌, eqb-true, eq-eqb}
+use Rattle.std.specs.List.{IsDistinct, list_any}
 use Rattle.std.proofs.lemmas.Bool.{le-leb, leb-true}
 use Rattle.std.proofs.lemmas.Map.Lookups.{exact_unsigned}
 use Rattle.tsn_edit.specs.declared.Edit.{Edit}
 use Rattle.tsn_edit.specs.declared.Edit.TheVariants as edits
 use Rattle.tsn_edit.specs.Batches.{IsBatch, are_distinct, edited_keys, is_batch, key_of}
-use Rattle.tsn_edit.proofs.Batched.{batch_of as batch_that_is}
-use Rattle.tsn_edit.proofs.KeyFacts.{by_bool, same_itself}
+use Rattle.tsn_edit.proofs.Batched.{batch_of as batch_that_is, not_apart}
+use Rattle.tsn_edit.proofs.KeyFacts.{by_bool, same_itself, is_equal}
 use Rattle.tsn_types.specs.declared.keys.Key.{Key}
 use Rattle.tsn_types.specs.declared.keys.Key.TheVariants as keys
 use Rattle.tsn_types.specs.Keys.{has, same_key}
@@ -31,11 +31,6 @@ drafted_is [] k = refl
 drafted_is (e ∷ es) k = ap (λ t. same_draft k (drafted_key e) || t) (drafted_is es k)
 
 -- ---- keys
-
-is_equal : (o : Ordering) → is_eq o ≡ true → o ≡ Equal
-is_equal Less h = cc
-is_equal Equal h = refl
-is_equal Greater h = cc
 
 same_number : (n m : ℕ) → (n == m) ≡ is_eq (nat_cmp n m)
 same_number n m =
@@ -110,14 +105,10 @@ tested b h =
     let few = and_parts _ _ some.1 in
     batch_that_is b (leb-true _ _ some.0) (leb-true _ _ few.0) few.1
 
-none_alike : (k : Key) (ks : List Key) → AllByRecursion (λ q. same_key k q ≡ false) ks → has ks k ≡ false
-none_alike k [] h = refl
-none_alike k (q ∷ ks) h = ap₂ ◌||◌ h.0 (none_alike k ks h.1)
-
 told_apart : (ks : List Key) → IsDistinct same_key ks → are_distinct ks ≡ true
 unfolding IsDistinct
 told_apart [] h = refl
-told_apart (k ∷ ks) h = ap₂ (λ a b. not a && b) (none_alike k ks h.0) (told_apart ks h.1)
+told_apart (k ∷ ks) h = ap₂ (λ a b. not a && b) (not_apart k ks h.0) (told_apart ks h.1)
 
 -- and a batch passes it
 pub test_of : (b : List Edit) → IsBatch b → is_batch b ≡ true

@@ -4,7 +4,7 @@ use Rattle.std.specs.List.{find, starts_with}
 use Rattle.std.specs.Str.Parse.{digits_value}
 use Rattle.std.proofs.lemmas.Bool.Decides.{Decides-eqb}
 use Rattle.std.proofs.lemmas.Fmt.{decimal-digits_value}
-use Rattle.std.proofs.lemmas.Slice.Eq.{bytes_eq-Decides, starts_is}
+use Rattle.std.proofs.lemmas.Slice.Eq.{starts_is}
 use Rattle.std.proofs.lemmas.Str.Parse.{digits_value_short}
 use Rattle.serde_json.specs.Data.{Data, string}
 use Rattle.serde_json.specs.Find.{get}
@@ -35,10 +35,11 @@ use Rattle.tsn_records.specs.declared.drafts.RecordDraft.{RecordDraft}
 use Rattle.tsn_records.specs.declared.unread.Unread.{Unread}
 use Rattle.tsn_records.proofs.Digits.{own, and_parts}
 use Rattle.tsn_records.proofs.RecordsRead.{InRangeOf, record_read}
-use Rattle.tsn_records.proofs.RecordRanges.{passed, at_most, within_ok, at_most_ok, port_back, filter_back, gate_back, meter_back}
+use Rattle.tsn_records.proofs.RecordRanges.{passed, within_ok, at_most_ok, port_back, filter_back, gate_back, meter_back, instance_passed}
 use Rattle.tsn_records.proofs.Steps.{last_step, only, steps}
 use Rattle.tsn_wire.proofs.FromShapes.{record_known as value_known, text_there, value_there}
 use Rattle.tsn_wire.proofs.Objects.{IsOrdered, inner_ordered}
+use Rattle.tsn_records.proofs.NameOrder.{same_text}
 
 -- one of two, by a test
 pub by_test : {A P : Type 0} (b : Bool) (x y z : A) → cond b x y ≡ z → (b ≡ true → x ≡ z → P) → (b ≡ false → y ≡ z → P) → P
@@ -47,9 +48,6 @@ by_test false x y z h first second = second refl h
 
 pub some : {A : Type 0} (a b : A) → Some a ≡ Some b → a ≡ b
 some a b h = cc
-
-pub same_text : (a b : List ℕ) → bytes_eq a b ≡ true → a ≡ b
-same_text a b e = (bytes_eq-Decides a b).0 e
 
 -- a text is that of the word found for it
 found_passes : {A : Type 0} (test : A → Bool) (xs : List A) (x : A) → find test xs ≡ Some x → test x ≡ true
@@ -117,12 +115,6 @@ kind_known text k h =
 -- a key of that kind and number
 abbrev IsPassed : Kind → ℕ → Key → Type 0
 IsPassed q n k = (q ≡ kind k) × (n ≡ number_of k) × KeyInRange k
-
-instance_passed : (n : ℕ) (k : Key) (P : Key → Type 0) (of : ℕ → Key) → (within fields.Key 0 greatest_instance n >>= λ m. Ok (of m)) ≡ Ok k
-    → ((m : ℕ) → n ≡ m → m ≤ greatest_instance → P (of m)) → P k
-instance_passed n k P of h holds =
-    last_step (within fields.Key 0 greatest_instance n) k P of h (λ m is.
-    let known = at_most fields.Key greatest_instance n m is in holds m known.0 known.1)
 
 -- a key that passes
 pub key_passed_at : (q : Kind) (n : ℕ) (k : Key) → key_of_kind q n ≡ Ok k → IsPassed q n k

@@ -1,5 +1,5 @@
 -- The first lexeme of a text, and what comes after it.
-use Rattle.std.proofs.Common.{◌≡◌, ℕ, ◌+◌, ◌<◌, ◌||◌, ◌==◌, List, [], ◌∷◌, ◌++◌, length, drop, get_or, Bool, true, false, cond, codes, decimal, inl, inr, ◌⊎◌, refl, sym, ap, ap₂, ◌∙◌, eqb-true}
+use Rattle.std.proofs.Common.{◌≡◌, ℕ, ◌+◌, ◌<◌, ◌||◌, ◌==◌, List, [], ◌∷◌, ◌++◌, length, drop, get_or, Bool, true, false, cond, codes, decimal, refl, sym, ap, ap₂, ◌∙◌, eqb-true}
 use Rattle.std.proofs.lemmas.Bool.{or_parts, not-true, eqb-false, ltb-false}
 use Rattle.std.proofs.lemmas.List.{drop_more}
 use Rattle.json.specs.Token.{Token}
@@ -16,10 +16,6 @@ use Rattle.tsn_records.proofs.Digits.{and_parts}
 use Rattle.tsn_records.proofs.Escaping.{escape_key}
 use Rattle.tsn_wire.specs.Lexed.{lexed, is_bare}
 use Rattle.tsn_wire.specs.Spelled.{IsSmall}
-
-either : {A B C : Type 0} → (A → C) → (B → C) → A ⊎ B → C
-either f g (inl a) = f a
-either f g (inr b) = g b
 
 -- one of four, or of six
 one_of_four : {C : Type 0} (a b c d : Bool) → (a ≡ true → C) → (b ≡ true → C) → (c ≡ true → C) → (d ≡ true → C) → (a || b || c || d) ≡ true

@@ -11,12 +11,13 @@ use Rattle.tsn_types.specs.Numbers.{greatest_handle, greatest_instant, greatest_
 use Rattle.tsn_records.specs.Answers.{◌>>=◌, each}
 use Rattle.tsn_records.specs.Ranges.{within, key, record_of}
 use Rattle.tsn_records.specs.declared.unread.Unread.{Unread}
-use Rattle.tsn_wire.specs.Words.{act_command, bare_command, edit_command, look_command, put_edit}
+use Rattle.tsn_wire.specs.Words.{bare_command, edit_command, look_command, put_edit}
 use Rattle.tsn_wire.specs.declared.drafts.CommandDraft.{CommandDraft}
 use Rattle.tsn_wire.specs.declared.drafts.CommandDraft.TheVariants as wanted
 use Rattle.tsn_wire.specs.declared.drafts.EditDraft.{EditDraft}
 use Rattle.tsn_wire.specs.declared.drafts.EditDraft.TheVariants as drafts
 use Rattle.tsn_wire.specs.declared.drafts.FrameDraft.{FrameDraft}
+use Rattle.tsn_bridge.specs.Families.{act_command}
 
 -- the number after which entries are asked for, and the one up to which they are settled, have 32 bits
 abbrev pub greatest_after : ℕ

@@ -8,8 +8,8 @@ use Rattle.tsn_edit.specs.declared.Edit.{Edit}
 use Rattle.tsn_edit.specs.declared.Edit.TheVariants as edits
 use Rattle.tsn_types.specs.declared.keys.Key.{Key}
 use Rattle.tsn_types.specs.declared.records.Record.{Record}
-use Rattle.tsn_wire.specs.declared.words.Act.{Act}
-use Rattle.tsn_wire.specs.declared.words.Act.TheVariants as acts
+use Rattle.tsn_journal.specs.declared.entries.Act.{Act}
+use Rattle.tsn_journal.specs.declared.entries.Act.TheVariants as acts
 use Rattle.tsn_wire.specs.declared.words.Bare.{Bare}
 use Rattle.tsn_wire.specs.declared.words.Bare.TheVariants as bares
 use Rattle.tsn_wire.specs.declared.words.Look.{Look}
@@ -77,11 +77,6 @@ abbrev pub edit_command : Edit → Command
 edit_command (edits.Create k r) = commands.Create k r
 edit_command (edits.Replace k r) = commands.Replace k r
 edit_command (edits.Remove k) = commands.Remove k
-
-abbrev pub act_command : Act → Key → ℕ → Command
-act_command acts.Enable = commands.Enable
-act_command acts.Disable = commands.Disable
-act_command acts.Apply = commands.Apply
 
 abbrev pub look_command : Look → Key → Command
 look_command looks.Counters = commands.Counters

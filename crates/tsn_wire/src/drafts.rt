@@ -2,9 +2,10 @@
 ghost use Rattle.std.specs.Prelude.{◌≡◌, true};
 ghost use Rattle.tsn_wire.specs.Batches.{batch_of, drafted_key, drafted_keys, drafts_are_distinct, has_draft, is_batch_draft, same_draft};
 
-use crate::words::{Act, Bare, Look, Put};
+use crate::words::{Bare, Look, Put};
 use std::marker::Model;
 use tsn_edit::MOST_PARTS;
+use tsn_journal::entries::Act;
 use tsn_records::drafts::{KeyDraft, RecordDraft};
 use tsn_records::unread::Unread;
 use tsn_types::keys::Kind;

@@ -36,4 +36,4 @@ pub use tsn_bytes::{
     Buffered, ByteIn, ByteOut, Failed, Failing, Fault, MemIn, MemOut, StdIo, put_all,
 };
 pub use tsn_replies::{write_refusal, write_reply};
-pub use words::{Act, Bare, Look, Put};
+pub use words::{Bare, Look, Put};

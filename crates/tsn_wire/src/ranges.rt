@@ -7,7 +7,7 @@ ghost use Rattle.tsn_wire.specs.Ranges.{greatest_after, longest_frame, frame_of_
 ghost use Rattle.tsn_wire.specs.Words.{edit_command};
 
 use crate::drafts::{BatchDraft, CommandDraft, EditDraft, FrameDraft};
-use crate::words::{Act, Look, Put};
+use crate::words::{Look, Put};
 use std::alloc::Global;
 use tsn_bridge::command::Command;
 use tsn_chain::frame::Frame;
@@ -53,6 +53,7 @@ fn frame_of_draft(draft: FrameDraft) -> Result<Frame, Unread>
     })
 }
 
+#[inline(always)]
 fn edit_of_draft(alloc: Global, draft: &EditDraft) -> Result<Edit, Unread>
     ensures { Reads result (edit_of_draft draft.now) }
 {
@@ -100,6 +101,7 @@ fn batch_of_draft(alloc: Global, draft: &BatchDraft) -> Result<Batch, Unread>
 }
 
 // The edit as a command of its own.
+#[inline(always)]
 fn command_of_edit(edit: Edit) -> Command
     ensures { result ≡ edit_command edit }
 {
@@ -129,11 +131,7 @@ pub fn command_of_draft(alloc: Global, wanted: &CommandDraft) -> Result<Command,
         } => {
             let key = key(*draft)?;
             let now = instant(*now, Field::Now)?;
-            Ok(match act {
-                Act::Enable => Command::Enable { key, now },
-                Act::Disable => Command::Disable { key, now },
-                Act::Apply => Command::Apply { key, now },
-            })
+            Ok(Command::of_act(*act, key, now))
         }
         CommandDraft::Frame { frame: draft, now } => {
             let frame = frame_of_draft(*draft)?;

@@ -7,20 +7,13 @@ use crate::cursor::Cursor;
 use crate::values::Scanned;
 use std::alloc::Global;
 use tsn_bridge::command::Command;
+use tsn_journal::entries::Act;
 
 /// Edits that put a record at a key.
 #[derive(Clone, Copy, Debug, PartialEq, Eq)]
 pub enum Put {
     Create,
     Replace,
-}
-
-/// Acts on a gate control list, at an instant.
-#[derive(Clone, Copy, Debug, PartialEq, Eq)]
-pub enum Act {
-    Enable,
-    Disable,
-    Apply,
 }
 
 /// Looks at what stands at a key.

@@ -24,7 +24,7 @@ use Rattle.clap.proofs.OnLiterals.{clap_on_literals}
 use Rattle.tsn_words.specs.Asking.{AsksFor, Given, GivesCheck, GivesKept, GivesNoCheck, GivesTooMuch, GivesWrongSyncs, HasJournal, HasServe, HasStates, IsComplete, IsFlagged, IsNumber, IsRefusal, IsWork, KeepsOrRefuses, Misgives, Names, TellsSomething, bit, has_text, is_flagged, looks, number_of, program, text_given}
 use Rattle.tsn_words.specs.declared.kept.Kept.{Kept}
 use Rattle.tsn_words.specs.declared.arguments.Asked.{Asked}
-use Rattle.tsn_words.specs.declared.arguments.Asked.TheVariants.{Script, States, Serve, Check, Lines, Journal, Shown, Refused}
+use Rattle.tsn_words.specs.declared.arguments.Asked.TheVariants.{Shown, Refused}
 
 -- what a parse finds wrong is computed for this program
 pub simple : is_simple_and_free program ≡ true
@@ -229,13 +229,6 @@ flag_read text b has is = (
   λ yes. has ∙ ap Some ((bytes_eq-Decides text (codes "true")).0 (sym is ∙ yes)),
   λ e. is ∙ (bytes_eq-Decides text (codes "true")).1 (ap (λ x. unwrap_or x text) (sym has ∙ e)),
 )
-
--- a text that is there is one of something
-pub never_none : {X : Type 0} (f : X → List ℕ) (o : Option X) {got : Option (List ℕ)} (text : List ℕ) → got ≡ option_map f o
-    → got ≡ Some text → o ≡ None → ⊥
-never_none f o text same e none =
-    let bad : Some text ≡ None = sym e ∙ same ∙ ap (option_map f) none in
-    (cc)
 
 -- a number's text is read as that number
 pub is_read : {E : Type 0} (text : List ℕ) (r : Result ℕ E) → ParsesUnsigned 64 10 text r → IsNumber text → IsOk r

@@ -125,17 +125,6 @@ fn put(text: &mut Vec<u8>, session: u32, command: Command) -> Result<(), AllocEr
     Ok(())
 }
 
-// The command of an act.
-fn command_of(done: &Done) -> Command {
-    let key = done.key;
-    let now = done.now;
-    match done.act {
-        Act::Enable => Command::Enable { key, now },
-        Act::Disable => Command::Disable { key, now },
-        Act::Apply => Command::Apply { key, now },
-    }
-}
-
 // Puts the replacement of the act's key by the record behind the text.
 fn put_record(
     text: &mut Vec<u8>,
@@ -154,7 +143,7 @@ fn put_act(text: &mut Vec<u8>, session: u32, done: &Done, last: &Record) -> Resu
     if is_other {
         put_record(text, session, done.key, &done.record)?;
     }
-    put(text, session, command_of(done))?;
+    put(text, session, Command::of_act(done.act, done.key, done.now))?;
     if is_other {
         put_record(text, session, done.key, last)?;
     }

@@ -1,5 +1,4 @@
 //! Worked scripts over a bridge: in every spelling and in pieces of every size, and one cut at every read and write.
-ghost use Rattle.std.specs.Prelude.{◌≤◌};
 
 use super::buffered;
 use super::fakes::LineFeeds;

@@ -1,5 +1,4 @@
-use Rattle.std.proofs.Common.{◌≡◌, false, true, sym, subst, ◌∙◌, ap, length}
-use Rattle.std.specs.Prelude.{◌==◌, OnOk}
+use Rattle.std.proofs.Common.{◌≡◌, sym, subst, ◌∙◌}
 use Rattle.std.proofs.lemmas.Result.{on_ok_weaker}
 use Rattle.tsn_keeping.specs.Stamps.{IsStamp}
 use Rattle.tsn_lasting.proofs.Entering.{enter_one, enter_well, no_length}

@@ -1,4 +1,3 @@
-use Rattle.std.proofs.Common.{◌++◌}
 use Rattle.tsn_lasting.proofs.Answering.{err_weaker, if_err_of, ok_of, ok_weaker, whole_broke, whole_settled}
 use Rattle.tsn_lasting.proofs.Windows.{end_broke, ended}
 use Rattle.tsn_lasting.proofs.running.end.Goals as goal

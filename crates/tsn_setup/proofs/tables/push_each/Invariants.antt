@@ -1,9 +1,8 @@
 use Rattle.std.proofs.Common.{◌≡◌, drop}
 use Rattle.toml.specs.View.{items_view}
 use Rattle.tsn_records.specs.Answers.{each}
-use Rattle.tsn_setup.specs.Tables.{table_shape}
+use Rattle.tsn_setup.specs.Tables.{table_shape, with_front}
 use Rattle.tsn_setup.specs.Toml.{items_list}
-use Rattle.tsn_setup.specs.Tables.{with_front}
 use Rattle.tsn_setup.proofs.tables.push_each.Given as goal
 
 abbrev pub invariant-values : goal.invariant-values

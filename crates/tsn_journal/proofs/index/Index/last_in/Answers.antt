@@ -5,7 +5,6 @@ use Rattle.tsn_journal.specs.Index.{belongs, number_at, number_of}
 use Rattle.tsn_journal.proofs.Links.{came_to, next_group, node_there, step_none}
 use Rattle.tsn_journal.proofs.Walking.{and_out, found_from, in_list, none_from}
 use Rattle.tsn_journal.proofs.index.Index.last_in.Goals as goal
-use Rattle.tsn_journal.proofs.index.Index.last_in.Goals.{else-is_in-via-then-is_in+else-test, else-is_in-via-else-is_in}
 
 pub numbered-entry-requires-clause-some : goal.numbered-entry-requires-clause-some
 numbered-entry-requires-clause-some g c =

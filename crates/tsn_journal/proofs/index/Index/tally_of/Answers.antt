@@ -7,7 +7,6 @@ use Rattle.tsn_journal.proofs.Links.{came_to, node_there, the_node}
 use Rattle.tsn_journal.proofs.Off.{none_before, own_split}
 use Rattle.tsn_journal.proofs.Walking.{both_told, nothing_behind, step_back}
 use Rattle.tsn_journal.proofs.index.Index.tally_of.Goals as goal
-use Rattle.tsn_journal.proofs.index.Index.tally_of.Goals.{then-is_own, else-is_own}
 
 pub back-init : goal.back-init
 back-init c =

@@ -1,4 +1,3 @@
-use Rattle.std.specs.Prelude.{option_map}
 use Rattle.tsn_lasting.proofs.Answering.{answered, broken, cut_off, err_weaker, ok_weaker}
 use Rattle.tsn_lasting.proofs.lasting.Lasting.answer_line.Goals as goal
 

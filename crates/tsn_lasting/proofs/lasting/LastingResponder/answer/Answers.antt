@@ -1,7 +1,5 @@
-use Rattle.std.proofs.Common.{[], refl, sym, subst}
-use Rattle.std.specs.Prelude.{option_map}
+use Rattle.std.proofs.Common.{[], refl, sym}
 use Rattle.std.proofs.KnownBytes.{Appends-nil}
-use Rattle.tsn_lasting.specs.Parts.{BreaksLine}
 use Rattle.tsn_lasting.proofs.Answering.{breaks_line_to}
 use Rattle.tsn_lasting.proofs.lasting.LastingResponder.answer.Goals as goal
 

@@ -2,7 +2,7 @@ use Rattle.std.proofs.Common.{◌≡◌, ◌≤◌, true, drop, filter, length, 
 use Rattle.std.specs.Prelude.{reverse}
 use Rattle.tsn_journal.specs.Index.{belongs, is_of, number_at, node_at}
 use Rattle.tsn_journal.specs.declared.groups.Group.TheVariants.{Of}
-use Rattle.tsn_journal.proofs.index.Index.falling_numbers_of.Given as goal
+use Rattle.tsn_journal.proofs.index.Index.numbers_of.Given as goal
 
 abbrev pub invariant-back : goal.invariant-back
 invariant-back l = record {

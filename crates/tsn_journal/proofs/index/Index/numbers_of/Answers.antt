@@ -6,8 +6,8 @@ use Rattle.tsn_journal.specs.declared.groups.Group.TheVariants.{Of}
 use Rattle.tsn_journal.proofs.Links.{came_to, next_group, node_there}
 use Rattle.tsn_journal.proofs.Off.{none_before}
 use Rattle.tsn_journal.proofs.Walking.{nothing_behind, step_back, none_numbered, one_numbered}
-use Rattle.tsn_journal.proofs.index.Index.falling_numbers_of.Goals as goal
-use Rattle.tsn_journal.proofs.index.Index.falling_numbers_of.Goals.{else-back-test, then-back-test+then-from-settled, then-is_own+in_ok-push, else-is_own}
+use Rattle.tsn_journal.proofs.index.Index.numbers_of.Goals as goal
+use Rattle.tsn_journal.proofs.index.Index.numbers_of.Goals.{else-back-test, then-back-test+then-from-settled, then-is_own+in_ok-push, else-is_own}
 
 pub back-init : goal.back-init
 back-init c =
