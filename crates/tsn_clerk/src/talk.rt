@@ -139,9 +139,7 @@ impl<'a, W: Wait, C: Clock, D: Device, R: Naming, K: Ahead, O: ByteOut> Talk<'a,
         ensures ok { OnOk result (HandsOn O.taken self.old [] self.new) }
         ensures err { OnErr result (BreaksOff O.taken self.old [] self.new) }
     {
-        if let Err(fault) = self.keep_due() {
-            return Err(fault);
-        }
+        self.keep_due()?;
         self.hand_on()
     }
 
@@ -154,9 +152,7 @@ impl<'a, W: Wait, C: Clock, D: Device, R: Naming, K: Ahead, O: ByteOut> Talk<'a,
         if self.replies.hold(reply) {
             return Ok(());
         }
-        if let Err(fault) = self.settle() {
-            return Err(fault);
-        }
+        self.settle()?;
         if write_reply(&mut self.writer, reply).is_err() {
             return Err(TalkFault::Write);
         }
@@ -198,10 +194,8 @@ impl<'a, W: Wait, C: Clock, D: Device, R: Naming, K: Ahead, O: ByteOut> Talk<'a,
             Ok(replied) => replied,
             Err(_) => return Err(TalkFault::Exhausted),
         };
-        match self.take_note(mark) {
-            Ok(()) => Ok(reply),
-            Err(fault) => Err(fault),
-        }
+        self.take_note(mark)?;
+        Ok(reply)
     }
 
     // Answers a line, and tells the reply. Where the call could not be recorded nothing is told.
@@ -209,10 +203,8 @@ impl<'a, W: Wait, C: Clock, D: Device, R: Naming, K: Ahead, O: ByteOut> Talk<'a,
         ensures ok { OnOk result (AnswersLine O.taken self.old (option_map (λ s. s.now) line.entry) self.new) }
         ensures err { OnErr result (BreaksLine O.taken self.old (option_map (λ s. s.now) line.entry) self.new) }
     {
-        match self.exchange(alloc, line) {
-            Ok(reply) => self.tell(&reply),
-            Err(fault) => Err(fault),
-        }
+        let reply = self.exchange(alloc, line)?;
+        self.tell(&reply)
     }
 }
 

@@ -39,9 +39,7 @@ pub fn talk_on<W: Wait, C: Clock, D: Device, R: Naming, K: Ahead, O: ByteOut, I:
         if count == 0 {
             return end(alloc, talk, line);
         }
-        if let Err(fault) = answer_window(alloc, talk, line, &chunk[..count]) {
-            return Err(fault);
-        }
+        answer_window(alloc, talk, line, &chunk[..count])?;
     }
     Err(TalkFault::Read)
 }

@@ -194,17 +194,9 @@ pub not_ok : {T E P : Type 0} (r : Result T E) → false ≡ is_ok r → OnErr r
 not_ok (Ok x) h p = (cc)
 not_ok (Err e) h p = p
 
-pub ok_weaker : {T E P Q : Type 0} (r : Result T E) → (P → Q) → OnOk r P → OnOk r Q
-ok_weaker (Ok x) f p = f p
-ok_weaker (Err e) f p = p
-
 pub ok_both : {T E P Q S : Type 0} (r : Result T E) → (P → Q → S) → OnOk r P → OnOk r Q → OnOk r S
 ok_both (Ok x) f p q = f p q
 ok_both (Err e) f p q = p
-
-pub err_weaker : {T E P Q : Type 0} (r : Result T E) → (P → Q) → OnErr r P → OnErr r Q
-err_weaker (Ok x) f p = p
-err_weaker (Err e) f p = f p
 
 pub if_err_of : {T E : Type 0} {P : E → Type 0} (r : Result T E) → true ≡ is_err r → IfErr r P → (e : E) × P e
 if_err_of (Ok x) h p = (cc)

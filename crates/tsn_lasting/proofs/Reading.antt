@@ -1,5 +1,6 @@
 -- From the first read to the last.
-use Rattle.std.proofs.Common.{◌≡◌, ℕ, List, [], ◌++◌, Option, Some, None, refl, sym, ◌∙◌, ap, subst, append_assoc, take}
+use Rattle.std.proofs.Common.{◌≡◌, ℕ, List, [], ◌++◌, Option, Some, refl, sym, subst, take}
+use Rattle.std.proofs.KnownBytes.{Consumes-kept, Consumes-nil, Consumes-trans}
 use Rattle.std.proofs.lemmas.List.{append-nil}
 use Rattle.std.specs.Io.KnownBytes.{Consumes, IsAtEnd, Keeps}
 use Rattle.tsn_lasting.specs.Parts.{Parts, standing}
@@ -8,26 +9,10 @@ use Rattle.tsn_lasting.specs.Standing.{IsAtRest, Standing}
 use Rattle.tsn_lasting.proofs.GoingOn.{begun}
 use Rattle.tsn_lasting.proofs.Windows.{stopped}
 
-consumes_none : (a : Option (List ℕ)) → Consumes a a []
-consumes_none None = tt
-consumes_none (Some xs) = refl
-
-pub keeps_consumed : (a b d : Option (List ℕ)) (xs : List ℕ) → Consumes a b xs → Keeps b d → Consumes a d xs
-keeps_consumed None b d xs h k = tt
-keeps_consumed (Some us) None d xs h k = absurd h
-keeps_consumed (Some us) (Some vs) None xs h k = absurd k
-keeps_consumed (Some us) (Some vs) (Some ws) xs h k = h ∙ ap (λ t. xs ++ t) (sym k)
-
-pub consumes_then : (a b d : Option (List ℕ)) (xs ys : List ℕ) → Consumes a b xs → Consumes b d ys → Consumes a d (xs ++ ys)
-consumes_then None b d xs ys h k = tt
-consumes_then (Some us) None d xs ys h k = absurd h
-consumes_then (Some us) (Some vs) None xs ys h k = absurd k
-consumes_then (Some us) (Some vs) (Some ws) xs ys h k = h ∙ ap (λ t. xs ++ t) k ∙ sym (append_assoc xs ys ws)
-
 pub first_under_way : (s : Standing) (left : Option (List ℕ)) → IsAtRest s → IsUnderWay s left left (Some []) s
 first_under_way s left rest = record {
   input = [];
-  read = consumes_none left;
+  read = Consumes-nil left;
   goes = record { lines = []; rest = []; splits = record { whole = refl; each = tt; last = tt }; held_is = refl; answered = begun s rest };
   rests = rest;
 }
@@ -37,19 +22,15 @@ pub under_way_breaks : {W : Type 0} (taken : W → Option (List ℕ)) (s0 : Stan
     → IsUnderWay s0 left now held (standing taken p) → Keeps now after → Breaks s0 left after (standing taken p)
 under_way_breaks taken s0 left now after held p under keeps = record {
   input = under.input;
-  read = keeps_consumed left now after under.input under.read keeps;
+  read = Consumes-kept left now after under.input under.read keeps;
   broken = stopped taken s0 under.input held p under.goes p under.goes.answered.lasts;
 }
-
-pub keeps_itself : (a : Option (List ℕ)) → Keeps a a
-keeps_itself None = tt
-keeps_itself (Some xs) = refl
 
 module _ {W : Type 0} (taken : W → Option (List ℕ)) (s0 : Standing) (left now after held : Option (List ℕ)) (mid new : Parts W) (n : ℕ)
     (chunk : List ℕ) (under : IsUnderWay s0 left now held (standing taken mid)) (read : Consumes now after (take n chunk)) where
   nothing_read : n ≡ 0 → Consumes left after under.input
   nothing_read none = subst (Consumes left after) (append-nil under.input)
-      (consumes_then left now after under.input [] under.read (subst (λ k. Consumes now after (take k chunk)) none read))
+      (Consumes-trans left now after under.input [] under.read (subst (λ k. Consumes now after (take k chunk)) none read))
 
   pub all_ended : n ≡ 0 → IsAtEnd after
       → ((s : Standing) (input : List ℕ) → Goes s input held (standing taken mid) → IsWhole s input (standing taken new))
@@ -66,7 +47,7 @@ module _ {W : Type 0} (taken : W → Option (List ℕ)) (s0 : Standing) (left no
       → IsAtRest (standing taken new) → IsUnderWay s0 left after next (standing taken new)
   window_more piece next is goes rests = record {
     input = under.input ++ piece;
-    read = consumes_then left now after under.input piece under.read (subst (Consumes now after) (sym is) read);
+    read = Consumes-trans left now after under.input piece under.read (subst (Consumes now after) (sym is) read);
     goes = goes s0 under.input under.goes;
     rests = rests;
   }
@@ -76,6 +57,6 @@ module _ {W : Type 0} (taken : W → Option (List ℕ)) (s0 : Standing) (left no
       → Breaks s0 left after (standing taken new)
   window_breaks piece is broken = record {
     input = under.input ++ piece;
-    read = consumes_then left now after under.input piece under.read (subst (Consumes now after) (sym is) read);
+    read = Consumes-trans left now after under.input piece under.read (subst (Consumes now after) (sym is) read);
     broken = broken s0 under.input under.goes;
   }

@@ -135,9 +135,7 @@ impl<C: Clock, D: Device, W: ByteOut> Lasting<C, D, W> {
     {
         self.recorder.clear();
         let reply = step(&mut self.recorder, read);
-        if let Err(failed) = enter(&mut self.keeper, self.clock.stamp(), self.recorder.text()) {
-            return Err(failed);
-        }
+        enter(&mut self.keeper, self.clock.stamp(), self.recorder.text())?;
         Ok(reply)
     }
 
@@ -169,9 +167,7 @@ impl<C: Clock, D: Device, W: ByteOut> Lasting<C, D, W> {
         if self.replies.hold(reply) {
             return Ok(());
         }
-        if let Err(fault) = self.settle() {
-            return Err(fault);
-        }
+        self.settle()?;
         if write_reply(&mut self.writer, reply).is_err() {
             return Err(LastingFault::Write);
         }

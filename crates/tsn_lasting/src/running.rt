@@ -43,9 +43,7 @@ pub fn run_lasting<C: Clock, D: Device, W: ByteOut, R: ByteIn>(
         if count == 0 {
             return end(alloc, lasting, &line);
         }
-        if let Err(fault) = answer_window(alloc, lasting, &mut line, &chunk[..count]) {
-            return Err(fault);
-        }
+        answer_window(alloc, lasting, &mut line, &chunk[..count])?;
     }
     Err(LastingFault::Read)
 }

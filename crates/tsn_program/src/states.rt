@@ -128,19 +128,10 @@ pub fn enable_at(bridge: &mut Bridge, port: PortId, now: Instant) -> Result<(), 
     ensures refused { IfErr result (EnablesNot bridge.old port now) }
 {
     let is_listed = has_list(bridge, Key::Port(port));
-    match take(bridge, 0, Command::Hello { name: None }) {
-        Ok(()) => {}
-        Err(why) => return Err(why),
-    }
+    take(bridge, 0, Command::Hello { name: None })?;
     let key = Key::Port(port);
-    match take(bridge, 1, Command::Enable { key, now }) {
-        Ok(()) => {}
-        Err(why) => return Err(why),
-    }
-    match apply_listed(bridge, port, now, is_listed) {
-        Ok(()) => Ok(()),
-        Err(why) => Err(why),
-    }
+    take(bridge, 1, Command::Enable { key, now })?;
+    apply_listed(bridge, port, now, is_listed)
 }
 
 /// The instant of the first line.

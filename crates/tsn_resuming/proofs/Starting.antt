@@ -1,6 +1,5 @@
 -- From the first line to the end of a start.
-use Rattle.std.proofs.Common.{◌≡◌, ◌≢◌, ◌⊎◌, ℕ, List, [], ◌∷◌, drop, Bool, true, Option, Result, Ok, Err, inl, inr, refl, sym, ◌∙◌, subst}
-use Rattle.std.specs.Prelude.{IfOk, IfErr}
+use Rattle.std.proofs.Common.{◌≡◌, ◌≢◌, ◌⊎◌, ℕ, List, [], ◌∷◌, drop, Bool, true, Option, inl, inr, refl, sym, ◌∙◌, subst}
 use Rattle.std.specs.Io.KnownBytes.{IsAtEnd}
 use Rattle.tsn_types.specs.declared.refusals.Refusal.{Refusal as AnyRefusal}
 use Rattle.tsn_types.specs.declared.refusals.Refusal.TheVariants as refusals
@@ -127,11 +126,3 @@ stopped before now line why fault (inr p) at = subst (StopsAt before now) (sym p
 pub unless_memory : {A : Type 0} (why : AnyRefusal) → (why ≡ refusals.Memory) ⊎ A → why ≢ refusals.Memory → A
 unless_memory why (inl e) known = absurd (known e)
 unless_memory why (inr h) known = h
-
-pub if_ok : {T E : Type 0} (r : Result T E) (P Q : T → Type 0) → ((x : T) → P x → Q x) → IfOk r P → IfOk r Q
-if_ok (Ok x) P Q f h = f x h
-if_ok (Err e) P Q f h = tt
-
-pub if_err : {T E : Type 0} (r : Result T E) (P Q : E → Type 0) → ((e : E) → P e → Q e) → IfErr r P → IfErr r Q
-if_err (Ok x) P Q f h = tt
-if_err (Err e) P Q f h = f e h

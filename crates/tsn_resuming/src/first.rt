@@ -79,10 +79,7 @@ fn setup_of_value(value: &Value) -> Result<&str, NoSetup>
 fn copied(alloc: Global, setup: &str) -> Result<Vec<u8>, NoSetup>
     ensures { Finds (seen (λ setup. setup.items) result) (Ok setup.now) }
 {
-    match Vec::from_slice(alloc, setup.as_bytes()) {
-        Ok(setup) => Ok(setup),
-        Err(_) => Err(NoSetup::Memory),
-    }
+    Vec::from_slice(alloc, setup.as_bytes()).map_err(|_| NoSetup::Memory)
 }
 
 /// The text of the setup in the first command of a journal file; want of memory in place of any answer.
@@ -95,8 +92,6 @@ pub fn setup_in(alloc: Global, command: &[u8]) -> Result<Vec<u8>, NoSetup>
         Err(Unread::Memory) => return Err(NoSetup::Memory),
         Err(_) => return Err(NoSetup::NoJournal),
     };
-    match setup_of_value(&value) {
-        Ok(setup) => copied(alloc, setup),
-        Err(why) => Err(why),
-    }
+    let setup = setup_of_value(&value)?;
+    copied(alloc, setup)
 }

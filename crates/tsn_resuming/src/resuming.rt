@@ -132,10 +132,8 @@ fn step(alloc: Global, bridge: &mut Bridge, command: &[u8]) -> Result<(), Refusa
     ensures reached { IsReached bridge.old → OnOk result (IsReached bridge.new) }
     ensures refused { IfErr result (λ why. (why ≡ refusals.Memory) ⊎ IsRefused bridge.old command.now why) }
 {
-    match command_of(alloc, command) {
-        Ok(ask) => replay(bridge, ask),
-        Err(unread) => Err(unread),
-    }
+    let ask = command_of(alloc, command)?;
+    replay(bridge, ask)
 }
 
 // Steps the bridge by each line that is at hand.
@@ -207,10 +205,8 @@ fn find_first<R: ByteIn>(
         if reader.advance() {
             return Ok(true);
         }
-        match feed(file, piece, reader) {
-            Ok(true) => {}
-            Ok(false) => return Ok(false),
-            Err(why) => return Err(why),
+        if !feed(file, piece, reader)? {
+            return Ok(false);
         }
     }
     Err(StartFault::Memory)
@@ -233,11 +229,10 @@ fn begin_reading<R: ByteIn, W: Watcher>(
     ensures fault { (before : Option (List ℕ)) → IsFed before (R.remaining file.old) [] reader.old →
         IfErr result (Fails before (R.remaining file.new) (R.has_failed file.new) (option_map (λ own. own.now) given.entry)) }
 {
-    match find_first(file, piece, reader) {
-        Ok(true) => begin(alloc, reader.command(), reader.stamp(), given, watcher),
-        Ok(false) => Err(StartFault::NoJournal),
-        Err(why) => Err(why),
+    if !find_first(file, piece, reader)? {
+        return Err(StartFault::NoJournal);
     }
+    begin(alloc, reader.command(), reader.stamp(), given, watcher)
 }
 
 // Reads the rest of the file, and steps the bridge by each line.
@@ -260,13 +255,9 @@ fn step_all<R: ByteIn, W: Watcher>(
         IfErr result (StopsReading before (R.remaining file.new) (R.has_failed file.new)) }
 {
     for _made in 0..u64::MAX {
-        if let Err(why) = step_lines(alloc, reader, bridge, watcher) {
-            return Err(why);
-        }
-        match feed(file, piece, reader) {
-            Ok(true) => {}
-            Ok(false) => return Ok(()),
-            Err(why) => return Err(why),
+        step_lines(alloc, reader, bridge, watcher)?;
+        if !feed(file, piece, reader)? {
+            return Ok(());
         }
     }
     Err(StartFault::Memory)
@@ -296,14 +287,12 @@ pub fn resume<R: ByteIn, W: Watcher>(
         Ok(bridge) => bridge,
         Err(why) => return Err(why),
     };
-    match step_all(alloc, file, &mut piece, &mut reader, &mut bridge, watcher) {
-        Ok(()) => Ok(Resumed {
-            bridge,
-            chain: reader.chain(),
-            lines: reader.lines(),
-            good: reader.good(),
-            end: reader.end(),
-        }),
-        Err(why) => Err(why),
-    }
+    step_all(alloc, file, &mut piece, &mut reader, &mut bridge, watcher)?;
+    Ok(Resumed {
+        bridge,
+        chain: reader.chain(),
+        lines: reader.lines(),
+        good: reader.good(),
+        end: reader.end(),
+    })
 }

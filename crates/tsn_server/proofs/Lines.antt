@@ -1,8 +1,7 @@
 -- The lines of last rounds, one after another.
-use Rattle.std.proofs.Common.{◌≡◌, ℕ, zero, suc, Option, Some, None, ◌++◌, List, [], ◌∷◌, All, map, length, refl, sym, ap, subst, ◌∙◌, arith, append_assoc, append-nil, unwrap_or}
-use Rattle.std.specs.Io.KnownBytes.{Appends}
+use Rattle.std.proofs.Common.{◌≡◌, ℕ, zero, suc, Option, Some, None, ◌++◌, List, [], ◌∷◌, All, map, refl, sym, ap, subst, ◌∙◌, arith, append_assoc, append-nil, unwrap_or}
 use Rattle.tsn_desk.specs.declared.desk.Desk.{Desk}
-use Rattle.tsn_desk.specs.Desks.{first_of, seen}
+use Rattle.tsn_desk.specs.Desks.{first_of}
 use Rattle.tsn_bridge.specs.State.{State}
 use Rattle.tsn_bridge.specs.declared.command.Ask.{Ask}
 use Rattle.tsn_bridge.specs.declared.reply.Reply.{Reply}
@@ -66,14 +65,6 @@ module _ (desk : Desk State Ask Reply) where
   pub served_rest : (olds : List BridgeSeat) (asked : List (ℕ × ℕ)) (served : List BridgeSeat) (pairs : List (BridgeSeat × PortWorker))
       → HasProbed desk olds asked served pairs → All (λ p. IsRested desk p) pairs
   served_rest olds asked served pairs h = rested h.probes pairs h.last_ones
-
--- two texts appended, one after the other
-pub appends_both : (old mid new : Option (List ℕ)) (first second : List ℕ) → Appends old mid first → Appends mid new second
-    → Appends old new (first ++ second)
-appends_both None mid new first second p q = tt
-appends_both (Some a) None new first second p q = absurd p
-appends_both (Some a) (Some b) None first second p q = absurd q
-appends_both (Some a) (Some b) (Some c) first second p q = q ∙ (ap (λ l. l ++ second) p ∙ append_assoc a first second)
 
 -- what is told at the end is of the ports that were followed, at the instant; where none is given, of no port, whatever the instant
 told_of : (first : State) (asked : Option ℕ) (other : ℕ) (text : List ℕ)

@@ -73,17 +73,8 @@ pub fn report<R: Wait, W: ByteOut>(
 {
     'workers: for pair in workers {
         let port = pair.1.port();
-        let told = match last_round(rt, desk, pair, at) {
-            Ok(told) => told,
-            Err(fault) => return Err(fault),
-        };
-        match put_all(writer, port_line(port, told).as_slice()) {
-            Ok(()) => {}
-            Err(fault) => return Err(fault),
-        }
+        let told = last_round(rt, desk, pair, at)?;
+        put_all(writer, port_line(port, told).as_slice())?;
     }
-    match writer.flush() {
-        Ok(()) => Ok(()),
-        Err(_) => Err(Fault::Write),
-    }
+    writer.flush().map_err(|_| Fault::Write)
 }

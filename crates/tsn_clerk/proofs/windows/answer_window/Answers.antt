@@ -1,4 +1,5 @@
-use Rattle.tsn_lasting.proofs.Answering.{if_err_of, ok_of, ok_weaker}
+use Rattle.std.proofs.lemmas.Result.{on_ok_weaker}
+use Rattle.tsn_lasting.proofs.Answering.{if_err_of, ok_of}
 use Rattle.tsn_clerk.proofs.Going.{broke, fed, with_caller}
 use Rattle.tsn_clerk.proofs.Telling.{settle_stays}
 use Rattle.tsn_clerk.proofs.windows.answer_window.Goals as goal
@@ -21,4 +22,4 @@ returns-clause-held g c =
     let (text, feeds, appended) = ok_of c.feed.result c.if-is_err.ensures.value c.feed.ensures.ok in
     let went = fed g.O.ByteOut.taken c.args.talk.now c.feed.new.responder c.args.line.now c.feed.new.line c.args.piece.now text c.requires
     feeds in
-    ok_weaker c.settle.result (λ _. went.1) c.settle.ensures.ok
+    on_ok_weaker c.settle.result (λ _. went.1) c.settle.ensures.ok

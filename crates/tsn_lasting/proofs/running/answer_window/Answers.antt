@@ -1,8 +1,9 @@
 use Rattle.std.proofs.Common.{ℕ, ◌++◌, List}
+use Rattle.std.proofs.lemmas.Result.{on_err_weaker, on_ok_weaker}
 use Rattle.tsn_lasting.specs.Parts.{standing}
 use Rattle.tsn_lasting.specs.Running.{Goes}
 use Rattle.tsn_lasting.specs.Standing.{Standing}
-use Rattle.tsn_lasting.proofs.Answering.{err_weaker, if_err_of, ok_of, ok_weaker, window_broke, window_settled}
+use Rattle.tsn_lasting.proofs.Answering.{if_err_of, ok_of, window_broke, window_settled}
 use Rattle.tsn_lasting.proofs.Windows.{broke, fed}
 use Rattle.tsn_lasting.proofs.running.answer_window.Given.{Over}
 use Rattle.tsn_lasting.proofs.running.answer_window.Goals.{After-settle}
@@ -23,10 +24,10 @@ gone g c s0 input goes =
 
 pub returns-clause-goes : goal.returns-clause-goes
 returns-clause-goes g c =
-    ok_weaker c.settle.result (λ hands s0 input goes. window_settled g.W.ByteOut.taken s0 (input ++ c.args.piece.now) c.feed.new.line
+    on_ok_weaker c.settle.result (λ hands s0 input goes. window_settled g.W.ByteOut.taken s0 (input ++ c.args.piece.now) c.feed.new.line
     c.feed.new.responder c.settle.new.self (gone g (goal.at.returns-clause-goes g c).After-settle s0 input goes) hands) c.settle.ensures.ok
 
 pub returns-clause-broken : goal.returns-clause-broken
 returns-clause-broken g c =
-    err_weaker c.settle.result (λ off s0 input goes. window_broke g.W.ByteOut.taken s0 (input ++ c.args.piece.now) c.feed.new.line
+    on_err_weaker c.settle.result (λ off s0 input goes. window_broke g.W.ByteOut.taken s0 (input ++ c.args.piece.now) c.feed.new.line
     c.feed.new.responder c.settle.new.self (gone g (goal.at.returns-clause-broken g c).After-settle s0 input goes) off) c.settle.ensures.err

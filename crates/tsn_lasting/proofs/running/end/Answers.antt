@@ -1,4 +1,5 @@
-use Rattle.tsn_lasting.proofs.Answering.{err_weaker, if_err_of, ok_of, ok_weaker, whole_broke, whole_settled}
+use Rattle.std.proofs.lemmas.Result.{on_err_weaker, on_ok_weaker}
+use Rattle.tsn_lasting.proofs.Answering.{if_err_of, ok_of, whole_broke, whole_settled}
 use Rattle.tsn_lasting.proofs.Windows.{end_broke, ended}
 use Rattle.tsn_lasting.proofs.running.end.Goals as goal
 
@@ -10,11 +11,11 @@ returns-then-is_err-clause-broken g c = λ s0 input goes.
 pub returns-clause-whole : goal.returns-clause-whole
 returns-clause-whole g c =
     let (text, ends, appended) = ok_of c.finish.result c.if-is_err.ensures.value c.finish.ensures.ok in
-    ok_weaker c.settle.result (λ hands s0 input goes. whole_settled g.W.ByteOut.taken s0 input c.finish.new.responder c.settle.new.self
+    on_ok_weaker c.settle.result (λ hands s0 input goes. whole_settled g.W.ByteOut.taken s0 input c.finish.new.responder c.settle.new.self
     (ended g.W.ByteOut.taken s0 input c.args.line.now c.args.lasting.now goes text c.finish.new.responder ends) hands) c.settle.ensures.ok
 
 pub returns-clause-broken : goal.returns-clause-broken
 returns-clause-broken g c =
     let (text, ends, appended) = ok_of c.finish.result c.if-is_err.ensures.value c.finish.ensures.ok in
-    err_weaker c.settle.result (λ breaks s0 input goes. whole_broke g.W.ByteOut.taken s0 input c.finish.new.responder c.settle.new.self
+    on_err_weaker c.settle.result (λ breaks s0 input goes. whole_broke g.W.ByteOut.taken s0 input c.finish.new.responder c.settle.new.self
     (ended g.W.ByteOut.taken s0 input c.args.line.now c.args.lasting.now goes text c.finish.new.responder ends) breaks) c.settle.ensures.err

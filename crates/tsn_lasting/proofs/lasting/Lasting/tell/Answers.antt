@@ -1,3 +1,4 @@
+use Rattle.std.proofs.lemmas.Result.{err_from_is_err_and}
 use Rattle.tsn_replies.specs.Replies.{reply_text}
 use Rattle.tsn_lasting.proofs.Answering.{cut_directly, err_of, not_settled, ok_of, told_directly}
 use Rattle.tsn_lasting.proofs.lasting.Lasting.tell.Goals as goal
@@ -5,16 +6,18 @@ use Rattle.tsn_lasting.proofs.lasting.Lasting.tell.Goals as goal
 pub returns-clause-ok : goal.returns-clause-ok
 returns-clause-ok g c =
     told_directly g.W.ByteOut.taken _ c.args.self.now c.self.view_is c.hold.new.self (reply_text c.args.reply.now)
-    (c.hold.ensures.none c.if-hold.false) _ c.settle.new.self c.in_default.ensures.ok c.self-2.view_is
+    (c.hold.ensures.none c.if-hold.false) _ c.settle.new.self c.in_ok-settle.ensures.ok c.self-2.view_is
     c.write_reply.new.writer (ok_of c.write_reply.result c.if-is_err.ensures.value c.write_reply.ensures.ok)
 
 pub returns-then-is_err-clause-err : goal.returns-then-is_err-clause-err
 returns-then-is_err-clause-err g c =
     cut_directly g.W.ByteOut.taken _ c.args.self.now c.self.view_is c.hold.new.self (reply_text c.args.reply.now)
-    (c.hold.ensures.none c.if-hold.false) _ c.settle.new.self c.in_default.ensures.ok c.self-2.view_is
+    (c.hold.ensures.none c.if-hold.false) _ c.settle.new.self c.in_ok-settle.ensures.ok c.self-2.view_is
     c.write_reply.new.writer (err_of c.write_reply.result c.if-is_err.ensures.value c.write_reply.ensures.cut)
 
-pub returns-in-Err-clause-err : goal.returns-in-Err-clause-err
-returns-in-Err-clause-err g c =
-    not_settled g.W.ByteOut.taken _ c.args.self.now c.self.view_is c.hold.new.self (reply_text c.args.reply.now)
-    (c.hold.ensures.none c.if-hold.false) _ c.in-Err.ensures.err
+pub returns-in_err-settle-clause-err : goal.returns-in_err-settle-clause-err
+returns-in_err-settle-clause-err g c =
+    let gone = err_from_is_err_and c.from_residual.result c.from_residual.ensures.1 in
+    rw gone.1
+    (not_settled g.W.ByteOut.taken _ c.args.self.now c.self.view_is c.hold.new.self (reply_text c.args.reply.now)
+    (c.hold.ensures.none c.if-hold.false) _ c.in_err-settle.ensures.err)
