@@ -13,9 +13,9 @@ use Rattle.tsn_edit.specs.Parts.{inverse}
 use Rattle.tsn_edit.proofs.InOrder.{change_is_result}
 use Rattle.tsn_edit.proofs.KeyFacts.{by_option}
 use Rattle.tsn_config.proofs.Batches.{batch_fits}
-use Rattle.tsn_journal.specs.declared.entries.What.TheVariants.{Made}
-use Rattle.tsn_journal.specs.Entries.{Applied, most_entries, no_room, undone as taken_back}
-use Rattle.tsn_journal.specs.Finding.{last_of}
+use Rattle.tsn_entries.specs.declared.entries.What.TheVariants.{Made}
+use Rattle.tsn_entries.specs.Entries.{Applied, most_entries, no_room, undone as taken_back}
+use Rattle.tsn_entries.specs.Finding.{last_of}
 use Rattle.tsn_undo.specs.Ledger.{Ledger, present}
 use Rattle.tsn_undo.specs.Soundness.{IsSound}
 use Rattle.tsn_undo.specs.Steps.{Edits, IsFree, edit_refusal, undo_refusal}
@@ -23,8 +23,8 @@ use Rattle.tsn_undo.proofs.Adding.{configuration_push}
 use Rattle.tsn_undo.proofs.AtOnce.{free_at_once, undone_at_once}
 use Rattle.tsn_undo.proofs.Free.{edit_admitted}
 use Rattle.tsn_undo.proofs.Making.{edit_sound, kept_now, makes_edit, makes_undo}
-use Rattle.tsn_bridge.specs.declared.reply.Reply.{Reply}
-use Rattle.tsn_bridge.specs.declared.reply.Reply.TheVariants.{Entry, EntryOf, Refused}
+use Rattle.tsn_commands.specs.declared.reply.Reply.{Reply}
+use Rattle.tsn_commands.specs.declared.reply.Reply.TheVariants.{Entry, EntryOf, Refused}
 use Rattle.tsn_bridge.specs.Edits.{changed_state, edit_rule, next, undo_rule}
 use Rattle.tsn_bridge.specs.Rule.{Allows, is_given}
 use Rattle.tsn_bridge.specs.State.{State}

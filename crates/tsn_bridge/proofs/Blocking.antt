@@ -5,9 +5,9 @@ use Rattle.std.specs.List.{AllByRecursion, find}
 use Rattle.std.proofs.lemmas.Bool.Decides.{nat_tests}
 use Rattle.tsn_edit.specs.Changes.{conflicts}
 use Rattle.tsn_edit.proofs.KeyFacts.{by_bool, by_option}
-use Rattle.tsn_journal.specs.declared.entries.Entry.{Entry}
-use Rattle.tsn_journal.specs.Entries.{Applied, IsNumbered, standing}
-use Rattle.tsn_journal.specs.Finding.{find_conflict_of_others, find_own_in_conflict, last_where, later_than, own_standing}
+use Rattle.tsn_entries.specs.declared.entries.Entry.{Entry}
+use Rattle.tsn_entries.specs.Entries.{Applied, IsNumbered, standing}
+use Rattle.tsn_entries.specs.Finding.{find_conflict_of_others, find_own_in_conflict, last_where, later_than, own_standing}
 use Rattle.tsn_journal.proofs.Numbers.{IsLast, Rises, last_where_none, last_where_some, later_than_rest, rises_rest, rises_standing}
 use Rattle.tsn_journal.proofs.Standing.{standing_found}
 use Rattle.tsn_undo.specs.UndoAll.{BlocksAll}

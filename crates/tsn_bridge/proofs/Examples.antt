@@ -32,8 +32,8 @@ use Rattle.tsn_chain.specs.Frames.{GateActs, framed, framed_at, framed_by, state
 use Rattle.tsn_chain.specs.Instances.{FrameData}
 use Rattle.tsn_undo.specs.Ledger.{present}
 use Rattle.tsn_undo.specs.UndoAll.{others_alone}
-use Rattle.tsn_bridge.specs.declared.reply.Reply.{Reply}
-use Rattle.tsn_bridge.specs.declared.reply.Reply.TheVariants.{Framed}
+use Rattle.tsn_commands.specs.declared.reply.Reply.{Reply}
+use Rattle.tsn_commands.specs.declared.reply.Reply.TheVariants.{Framed}
 use Rattle.tsn_bridge.specs.Beginning.{standard}
 use Rattle.tsn_bridge.specs.Frames.{acts_of_gates, framed_state}
 use Rattle.tsn_bridge.specs.Looking.{counted_at}

@@ -15,11 +15,11 @@ use Rattle.tsn_chain.specs.declared.frame.Frame.{Frame}
 use Rattle.tsn_chain.specs.declared.frame.Verdict.{Verdict}
 use Rattle.tsn_chain.specs.Frames.{framed}
 use Rattle.tsn_chain.specs.Instances.{FrameData}
-use Rattle.tsn_journal.specs.declared.entries.Act.{Act as Asked}
-use Rattle.tsn_journal.specs.declared.entries.What.{What}
-use Rattle.tsn_journal.specs.declared.entries.What.TheVariants.{Made}
-use Rattle.tsn_journal.specs.Entries.{Applied, applies, no_room, redone, undone}
-use Rattle.tsn_journal.specs.Finding.{find_redo_conflict, last_of, own_standing, redo_of}
+use Rattle.tsn_entries.specs.declared.entries.Act.{Act as Asked}
+use Rattle.tsn_entries.specs.declared.entries.What.{What}
+use Rattle.tsn_entries.specs.declared.entries.What.TheVariants.{Made}
+use Rattle.tsn_entries.specs.Entries.{Applied, applies, no_room, redone, undone}
+use Rattle.tsn_entries.specs.Finding.{find_redo_conflict, last_of, own_standing, redo_of}
 use Rattle.tsn_undo.specs.Ledger.{Ledger, present}
 use Rattle.tsn_undo.specs.Redo.{IsRedoable, TellsFit, redo_cause}
 use Rattle.tsn_undo.specs.Steps.{edit_refusal, undo_refusal}
@@ -28,15 +28,16 @@ use Rattle.tsn_undo.proofs.Free.{edit_admitted, or_none}
 use Rattle.tsn_undo.proofs.Making.{edit_sound, kept_now, undo_step_now}
 use Rattle.tsn_undo.proofs.Redone.{inverse_fits, redo_refusal-first, redo_sound, undone_split}
 use Rattle.tsn_edit.proofs.KeyFacts.{by_option}
-use Rattle.tsn_bridge.specs.declared.command.Command.{Command}
-use Rattle.tsn_bridge.specs.declared.command.Command.TheVariants as commands
-use Rattle.tsn_bridge.specs.declared.reply.Reply.{Reply}
-use Rattle.tsn_bridge.specs.declared.reply.Reply.TheVariants as replies
+use Rattle.tsn_commands.specs.declared.command.Command.{Command}
+use Rattle.tsn_commands.specs.declared.command.Command.TheVariants as commands
+use Rattle.tsn_commands.specs.declared.reply.Reply.{Reply}
+use Rattle.tsn_commands.specs.declared.reply.Reply.TheVariants as replies
 use Rattle.tsn_bridge.specs.Acts.{act_rule, acted_state, instant}
 use Rattle.tsn_bridge.specs.Edits.{changed_state, edit_rule, next, redo_rule, undo_all_rule, undo_rule, undone_state}
 use Rattle.tsn_bridge.specs.Families.{Acting, Counting, Editing, Family, Framing, Greeting, Looking, OfRule, Redoing, Settling, Undoing, UndoingAll, family, seen_by_looks}
 use Rattle.tsn_bridge.specs.Frames.{acts_of_gates, frame_rule, framed_state}
-use Rattle.tsn_bridge.specs.Histories.{CommandInRange, StateIsSound}
+use Rattle.tsn_bridge.specs.Histories.{StateIsSound}
+use Rattle.tsn_commands.specs.Commands.{CommandInRange}
 use Rattle.tsn_bridge.specs.Machine.{Goes, Step}
 use Rattle.tsn_bridge.specs.Rule.{Allows, Look, Rule, is_given, look_rule, may_change}
 use Rattle.tsn_bridge.specs.Names.{known, with_name}

@@ -20,10 +20,10 @@ use Rattle.tsn_edit.proofs.KeyFacts.{part_on, part_on_none}
 use Rattle.tsn_schedule.specs.Kept.{Kept, fresh}
 use Rattle.tsn_schedule.specs.Stands.{StandsFor}
 use Rattle.tsn_schedule.proofs.Keeps.{fresh_stands}
-use Rattle.tsn_journal.specs.declared.entries.What.{What}
-use Rattle.tsn_journal.specs.declared.entries.What.TheVariants.{Made, Undone, Redone, Acted, Settled}
-use Rattle.tsn_journal.specs.declared.entries.Entry.{Entry}
-use Rattle.tsn_journal.specs.Entries.{applies}
+use Rattle.tsn_entries.specs.declared.entries.What.{What}
+use Rattle.tsn_entries.specs.declared.entries.What.TheVariants.{Made, Undone, Redone, Acted, Settled}
+use Rattle.tsn_entries.specs.declared.entries.Entry.{Entry}
+use Rattle.tsn_entries.specs.Entries.{applies}
 use Rattle.tsn_undo.specs.Ledger.{Ledger, enter, present}
 use Rattle.tsn_undo.proofs.Adding.{configuration_push}
 use Rattle.tsn_chain.specs.Following.{frames_after, row_after, runners_after, runners_at}

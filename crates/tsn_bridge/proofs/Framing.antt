@@ -9,8 +9,8 @@ use Rattle.tsn_chain.specs.declared.frame.Verdict.{Verdict}
 use Rattle.tsn_chain.specs.Frames.{framed}
 use Rattle.tsn_chain.specs.Instances.{FrameData}
 use Rattle.tsn_undo.specs.Ledger.{present}
-use Rattle.tsn_bridge.specs.declared.reply.Reply.{Reply}
-use Rattle.tsn_bridge.specs.declared.reply.Reply.TheVariants.{Framed}
+use Rattle.tsn_commands.specs.declared.reply.Reply.{Reply}
+use Rattle.tsn_commands.specs.declared.reply.Reply.TheVariants.{Framed}
 use Rattle.tsn_bridge.specs.Frames.{acts_of_gates, frame_rule, framed_state}
 use Rattle.tsn_bridge.specs.Names.{GivenOut}
 use Rattle.tsn_bridge.specs.Pair.{PairState}

@@ -21,8 +21,8 @@ use Rattle.tsn_schedule.specs.Entries.{entry_at}
 use Rattle.tsn_schedule.specs.Refusing.{has_entries}
 use Rattle.tsn_schedule.specs.Times.{change_of}
 use Rattle.tsn_edit.specs.Runs.{run}
-use Rattle.tsn_journal.specs.Entries.{Applied, changes, no_room, standing, undone as taken_back}
-use Rattle.tsn_journal.specs.Finding.{standing_entry}
+use Rattle.tsn_entries.specs.Entries.{Applied, changes, no_room, standing, undone as taken_back}
+use Rattle.tsn_entries.specs.Finding.{standing_entry}
 use Rattle.tsn_journal.proofs.Standing.{standing_found}
 use Rattle.tsn_undo.specs.Ledger.{Ledger, base_of, enter, present}
 use Rattle.tsn_undo.specs.Commuting.{value_before}
@@ -31,15 +31,16 @@ use Rattle.tsn_undo.proofs.Commutation.{commutation}
 use Rattle.tsn_undo.proofs.UndoAll.{free_of_all, own, own_closed}
 use Rattle.tsn_undo.proofs.Making.{kept_now, makes_undo}
 use Rattle.tsn_chain.specs.declared.state.State.{State as Shown}
-use Rattle.tsn_bridge.specs.declared.command.Command.{Command}
-use Rattle.tsn_bridge.specs.declared.command.Command.TheVariants as commands
-use Rattle.tsn_bridge.specs.declared.reply.Reply.{Reply}
-use Rattle.tsn_bridge.specs.declared.reply.Reply.TheVariants.{Acted, Entry, EntryOf, Refused, States, TakenBack}
+use Rattle.tsn_commands.specs.declared.command.Command.{Command}
+use Rattle.tsn_commands.specs.declared.command.Command.TheVariants as commands
+use Rattle.tsn_commands.specs.declared.reply.Reply.{Reply}
+use Rattle.tsn_commands.specs.declared.reply.Reply.TheVariants.{Acted, Entry, EntryOf, Refused, States, TakenBack}
 use Rattle.tsn_bridge.specs.Acts.{apply_change, apply_rule, has_entry, instant}
 use Rattle.tsn_bridge.specs.Edits.{edit_rule, next, undo_rule}
 use Rattle.tsn_bridge.specs.Headline.{AtOnceUndone, EditsLast, GateRestored, GateRuns, ListRuns, OthersAlone, OthersLeft, PortRestored, PortRuns, PutsAllBack, PutsBack, RestoredList}
 use Rattle.tsn_bridge.specs.Families.{Editing, Family, family}
-use Rattle.tsn_bridge.specs.Histories.{CommandInRange, StateIsSound, edits_of, batch_of}
+use Rattle.tsn_bridge.specs.Histories.{StateIsSound, edits_of, batch_of}
+use Rattle.tsn_commands.specs.Commands.{CommandInRange}
 use Rattle.tsn_bridge.specs.Machine.{Step}
 use Rattle.tsn_bridge.specs.Quiet.{SinceQuiet}
 use Rattle.tsn_bridge.specs.Rule.{Allows, is_given}

@@ -3,23 +3,24 @@ use Rattle.std.proofs.Common.{◌≡◌, ℕ, ◌+◌, ◌≤◌, List, [], ◌�
 use Rattle.tsn_edit.specs.declared.Edit.{Edit}
 use Rattle.tsn_chain.specs.Following.{frames_after}
 use Rattle.tsn_chain.specs.Instances.{FrameData}
-use Rattle.tsn_journal.specs.declared.entries.Entry.{Entry}
-use Rattle.tsn_journal.specs.declared.entries.What.{What}
-use Rattle.tsn_journal.specs.declared.entries.What.TheVariants.{Acted, Settled}
-use Rattle.tsn_journal.specs.Entries.{Applied, undone}
-use Rattle.tsn_journal.specs.Finding.{own_standing}
+use Rattle.tsn_entries.specs.declared.entries.Entry.{Entry}
+use Rattle.tsn_entries.specs.declared.entries.What.{What}
+use Rattle.tsn_entries.specs.declared.entries.What.TheVariants.{Acted, Settled}
+use Rattle.tsn_entries.specs.Entries.{Applied, undone}
+use Rattle.tsn_entries.specs.Finding.{own_standing}
 use Rattle.tsn_undo.specs.Ledger.{enter}
 use Rattle.tsn_undo.specs.UndoAll.{TakesAllBack, undo_all_refusal, with_undone}
 use Rattle.tsn_undo.proofs.Adding.{sound_quiet, sound_settled}
 use Rattle.tsn_undo.proofs.UndoAll.{begin_taken, free_of_all, makes_all, taken_to}
-use Rattle.tsn_bridge.specs.declared.command.Command.{Command}
-use Rattle.tsn_bridge.specs.declared.command.Command.TheVariants as commands
-use Rattle.tsn_bridge.specs.declared.reply.Reply.{Reply}
-use Rattle.tsn_bridge.specs.declared.reply.Reply.TheVariants.{Entry as EntryReply, TakenBack}
+use Rattle.tsn_commands.specs.declared.command.Command.{Command}
+use Rattle.tsn_commands.specs.declared.command.Command.TheVariants as commands
+use Rattle.tsn_commands.specs.declared.reply.Reply.{Reply}
+use Rattle.tsn_commands.specs.declared.reply.Reply.TheVariants.{Entry as EntryReply, TakenBack}
 use Rattle.tsn_bridge.specs.Acts.{instant}
 use Rattle.tsn_bridge.specs.Edits.{edit_rule, undo_all_rule}
 use Rattle.tsn_bridge.specs.Families.{Editing, Family, family}
-use Rattle.tsn_bridge.specs.Histories.{AreInRange, Answered, CommandInRange, Leads, StateIsSound, batch_of, edits_of}
+use Rattle.tsn_bridge.specs.Histories.{AreInRange, Answered, Leads, StateIsSound, batch_of, edits_of}
+use Rattle.tsn_commands.specs.Commands.{CommandInRange}
 use Rattle.tsn_bridge.specs.declared.sessions.Named.{Named}
 use Rattle.tsn_bridge.specs.Later.{IsLater}
 use Rattle.tsn_bridge.specs.Machine.{Goes, Step}

@@ -10,16 +10,16 @@ use Rattle.tsn_types.specs.declared.refusals.Refusal.TheVariants.{EmptyList, Jou
 use Rattle.tsn_types.specs.Limits.{first_cause, unless}
 use Rattle.tsn_types.specs.Refusals.{IsLeastOrMemory, least}
 use Rattle.tsn_types.proofs.Ordered.{IsOrdered, causes_of, is_unless}
-use Rattle.tsn_journal.specs.declared.entries.Act.{Act as Asked}
-use Rattle.tsn_journal.specs.declared.entries.Act.TheVariants as asked
-use Rattle.tsn_journal.specs.Entries.{most_entries, no_room}
+use Rattle.tsn_entries.specs.declared.entries.Act.{Act as Asked}
+use Rattle.tsn_entries.specs.declared.entries.Act.TheVariants as asked
+use Rattle.tsn_entries.specs.Entries.{most_entries, no_room}
 use Rattle.tsn_undo.specs.Ledger.{present}
 use Rattle.tsn_undo.proofs.Free.{or_none}
 use Rattle.tsn_chain.specs.declared.state.Counters.{Counters}
 use Rattle.tsn_chain.specs.declared.state.State.{State as Shown}
 use Rattle.tsn_bridge.specs.Names.{GivenOut}
-use Rattle.tsn_bridge.specs.declared.reply.Reply.{Reply}
-use Rattle.tsn_bridge.specs.declared.reply.Reply.TheVariants as replies
+use Rattle.tsn_commands.specs.declared.reply.Reply.{Reply}
+use Rattle.tsn_commands.specs.declared.reply.Reply.TheVariants as replies
 use Rattle.tsn_bridge.specs.Acts.{act_causes, act_change, act_rule, apply_causes, apply_rule, enabled_at, has_entry, key_causes, list_causes}
 use Rattle.tsn_bridge.specs.Looking.{counted_at, counters_rule, last_at, shown_at, states_rule}
 use Rattle.tsn_bridge.specs.Pair.{PairState, acted}

@@ -18,11 +18,11 @@ use Rattle.tsn_edit.specs.Runs.{run}
 use Rattle.tsn_config.specs.Kinds.{filter_of, gate_of}
 use Rattle.tsn_config.specs.Opening.{dangling_cause, limits_cause, opening, repeated_key}
 use Rattle.tsn_config.proofs.OpeningKept.{opening_kept}
-use Rattle.tsn_journal.specs.declared.entries.Entry.{Entry}
-use Rattle.tsn_journal.specs.declared.entries.What.{What}
-use Rattle.tsn_journal.specs.declared.entries.What.TheVariants.{Made, Undone, Redone, Acted, Settled}
-use Rattle.tsn_journal.specs.Entries.{Applied, applies, undone}
-use Rattle.tsn_journal.specs.Finding.{own_standing}
+use Rattle.tsn_entries.specs.declared.entries.Entry.{Entry}
+use Rattle.tsn_entries.specs.declared.entries.What.{What}
+use Rattle.tsn_entries.specs.declared.entries.What.TheVariants.{Made, Undone, Redone, Acted, Settled}
+use Rattle.tsn_entries.specs.Entries.{Applied, applies, undone}
+use Rattle.tsn_entries.specs.Finding.{own_standing}
 use Rattle.tsn_edit.proofs.Inverses.{each_weaker}
 use Rattle.tsn_undo.specs.Ledger.{enter, present}
 use Rattle.tsn_undo.specs.UndoAll.{with_undone}
@@ -42,13 +42,14 @@ use Rattle.tsn_chain.specs.Instances.{FrameData, HasFrameKeys}
 use Rattle.tsn_chain.proofs.FirstRows.{begun_keys}
 use Rattle.tsn_chain.proofs.Framing.{refers_to_gate, refers_to_meter}
 use Rattle.tsn_chain.proofs.Keys.{keys_fit, met_keys}
-use Rattle.tsn_bridge.specs.declared.command.Command.{Command}
-use Rattle.tsn_bridge.specs.declared.reply.Reply.{Reply}
+use Rattle.tsn_commands.specs.declared.command.Command.{Command}
+use Rattle.tsn_commands.specs.declared.reply.Reply.{Reply}
 use Rattle.tsn_bridge.specs.Acts.{instant}
 use Rattle.tsn_bridge.specs.Beginning.{Opens, begun}
 use Rattle.tsn_bridge.specs.Families.{Family, family}
 use Rattle.tsn_bridge.specs.Frames.{acts_of_gates}
-use Rattle.tsn_bridge.specs.Histories.{AreInRange, CommandInRange, Leads, Answered}
+use Rattle.tsn_bridge.specs.Histories.{AreInRange, Leads, Answered}
+use Rattle.tsn_commands.specs.Commands.{CommandInRange}
 use Rattle.tsn_bridge.specs.Later.{ActsAreBy, IsBy, IsLater, IsWhole}
 use Rattle.tsn_bridge.specs.Names.{AreWithin}
 use Rattle.tsn_bridge.proofs.Naming.{within_next}
@@ -57,11 +58,8 @@ use Rattle.tsn_bridge.specs.State.{State}
 use Rattle.tsn_bridge.specs.Together.{undone_by}
 use Rattle.tsn_bridge.proofs.AtOnce.{done_of}
 use Rattle.tsn_bridge.proofs.Families.{ActDone, AllUndone, Changed, FamilyInRange, FrameTaken, Greeted, Left, Same, SettledTo, in_range, leaves}
+use Rattle.tsn_config.proofs.Joined.{all_joined}
 use Rattle.tsn_bridge.proofs.Interleaving.{after_both, follows, itself}
-
-pub all_joined : {A : Type 0} (P : A → Type 0) (xs ys : List A) → AllByRecursion P xs → AllByRecursion P ys → AllByRecursion P (xs ++ ys)
-all_joined P [] ys h g = g
-all_joined P (x ∷ xs) ys h g = (h.0, all_joined P xs ys h.1 g)
 
 -- ---- an entry that applied a change that fits
 

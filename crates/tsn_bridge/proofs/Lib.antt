@@ -1,4 +1,3 @@
-pub mod Accepted
 pub mod Stepping
 pub mod AtOnce
 pub mod Families

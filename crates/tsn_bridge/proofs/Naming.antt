@@ -2,9 +2,9 @@
 use Rattle.std.proofs.Common.{◌≡◌, ℕ, suc, ◌+◌, ◌<◌, ◌≤◌, ◌==◌, Bool, true, false, cond, List, [], ◌∷◌, ◌++◌, Option, Some, None, inl, inr, refl, sym, ◌∙◌, ap, subst, arith, length, bytes_eq}
 use Rattle.std.proofs.lemmas.Bool.{cases_Bool, eqb-true}
 use Rattle.std.proofs.lemmas.Bool.Decides.{nat_tests}
-use Rattle.tsn_journal.specs.declared.entries.Entry.{Entry}
-use Rattle.tsn_journal.specs.Finding.{own_standing}
-use Rattle.tsn_bridge.specs.declared.sessions.GivenSession.{GivenSession}
+use Rattle.tsn_entries.specs.declared.entries.Entry.{Entry}
+use Rattle.tsn_entries.specs.Finding.{own_standing}
+use Rattle.tsn_entries.specs.declared.sessions.GivenSession.{GivenSession}
 use Rattle.tsn_bridge.specs.declared.sessions.Named.{Named}
 use Rattle.tsn_bridge.specs.Sessions.{given_session, given_to}
 use Rattle.tsn_bridge.specs.Names.{AreWithin, name_of, session_of, with_name}

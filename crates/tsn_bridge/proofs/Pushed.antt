@@ -4,10 +4,10 @@ use Rattle.std.specs.Prelude.{◌==◌}
 use Rattle.std.specs.Option.{option_and_then}
 use Rattle.std.proofs.lemmas.Bool.Decides.{nat_tests}
 use Rattle.tsn_edit.specs.Parts.{Change}
-use Rattle.tsn_journal.specs.declared.entries.Entry.{Entry}
-use Rattle.tsn_journal.specs.declared.entries.What.{What}
-use Rattle.tsn_journal.specs.Entries.{Applied, IsNumbered, applies, undone, with_entry}
-use Rattle.tsn_journal.specs.Finding.{change_at, entry}
+use Rattle.tsn_entries.specs.declared.entries.Entry.{Entry}
+use Rattle.tsn_entries.specs.declared.entries.What.{What}
+use Rattle.tsn_entries.specs.Entries.{Applied, IsNumbered, applies, undone, with_entry}
+use Rattle.tsn_entries.specs.Finding.{change_at, entry}
 use Rattle.tsn_journal.proofs.Marking.{IsNumbered-with_entry}
 use Rattle.tsn_undo.specs.Ledger.{Ledger, enter}
 use Rattle.tsn_undo.specs.UndoAll.{with_undone}

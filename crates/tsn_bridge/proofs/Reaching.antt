@@ -1,11 +1,12 @@
 -- What is asked of a bridge that was reached leads on from where it began.
 use Rattle.std.proofs.Common.{◌≡◌, List, [], ◌∷◌, ◌++◌, refl, subst}
-use Rattle.tsn_desk.specs.declared.history.Entry.{Entry}
-use Rattle.tsn_desk.specs.History.{Runs}
-use Rattle.tsn_bridge.specs.declared.command.Ask.{Ask}
-use Rattle.tsn_bridge.specs.declared.reply.Reply.{Reply}
+use Rattle.tsn_machine.specs.declared.history.Entry.{Entry}
+use Rattle.tsn_machine.specs.History.{Runs}
+use Rattle.tsn_commands.specs.declared.command.Ask.{Ask}
+use Rattle.tsn_commands.specs.declared.reply.Reply.{Reply}
 use Rattle.tsn_bridge.specs.Beginning.{IsOpened, begun}
-use Rattle.tsn_bridge.specs.Histories.{Answered, Answers, AreInRange, CommandInRange, Leads}
+use Rattle.tsn_bridge.specs.Histories.{Answered, Answers, AreInRange, Leads}
+use Rattle.tsn_commands.specs.Commands.{CommandInRange}
 use Rattle.tsn_bridge.specs.Later.{IsWhole}
 use Rattle.tsn_bridge.specs.Reached.{IsReached}
 use Rattle.tsn_bridge.specs.State.{State}

@@ -27,17 +27,17 @@ use Rattle.tsn_schedule.specs.States.{state_in}
 use Rattle.tsn_schedule.specs.Times.{change_of}
 use Rattle.tsn_schedule.proofs.Meaning.{change_is_least}
 use Rattle.tsn_schedule.proofs.Restored.{restored}
-use Rattle.tsn_journal.specs.declared.entries.Act.TheVariants as asked
-use Rattle.tsn_journal.specs.declared.entries.Entry.{Entry}
-use Rattle.tsn_journal.specs.declared.entries.What.{What}
-use Rattle.tsn_journal.specs.declared.entries.What.TheVariants.{Made, Undone, Redone, Acted, Settled}
+use Rattle.tsn_entries.specs.declared.entries.Act.TheVariants as asked
+use Rattle.tsn_entries.specs.declared.entries.Entry.{Entry}
+use Rattle.tsn_entries.specs.declared.entries.What.{What}
+use Rattle.tsn_entries.specs.declared.entries.What.TheVariants.{Made, Undone, Redone, Acted, Settled}
 use Rattle.tsn_undo.specs.Ledger.{Ledger, present}
 use Rattle.tsn_undo.proofs.Adding.{nothing_push}
 use Rattle.tsn_chain.specs.declared.state.State.{State as Shown}
 use Rattle.tsn_chain.specs.declared.state.State.TheVariants as states
 use Rattle.tsn_chain.specs.State.{gate_state, port_state}
-use Rattle.tsn_bridge.specs.declared.reply.Reply.{Reply}
-use Rattle.tsn_bridge.specs.declared.reply.Reply.TheVariants as replies
+use Rattle.tsn_commands.specs.declared.reply.Reply.{Reply}
+use Rattle.tsn_commands.specs.declared.reply.Reply.TheVariants as replies
 use Rattle.tsn_bridge.specs.Acts.{acted_state, apply_rule, enabled_at, has_list, instant, list_causes}
 use Rattle.tsn_bridge.specs.Looking.{last_at, shown_at, states_rule}
 use Rattle.tsn_bridge.specs.Objects.{Object, after_entry, after_part, gate_at, gate_schedule, lived, object, port_at, port_schedule, with_asked}

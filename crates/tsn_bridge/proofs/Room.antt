@@ -5,9 +5,9 @@ use Rattle.std.proofs.Math.Nat.{le_refl, sub-add_cancel, suc-add}
 use Rattle.std.specs.Option.{option_map_or}
 use Rattle.tsn_edit.specs.Changes.{room_of}
 use Rattle.tsn_edit.specs.Parts.{Change, inverse_part}
-use Rattle.tsn_journal.specs.declared.entries.Entry.{Entry}
-use Rattle.tsn_journal.specs.Entries.{Applied, IsNumbered}
-use Rattle.tsn_journal.specs.Finding.{change_at, parts_of_all}
+use Rattle.tsn_entries.specs.declared.entries.Entry.{Entry}
+use Rattle.tsn_entries.specs.Entries.{Applied, IsNumbered}
+use Rattle.tsn_entries.specs.Finding.{change_at, parts_of_all}
 use Rattle.tsn_undo.specs.UndoAll.{with_undone}
 use Rattle.tsn_bridge.specs.Together.{followed, followed_by, room_at, room_behind, undone_by}
 use Rattle.tsn_bridge.proofs.Pushed.{followed_undone}

@@ -19,7 +19,7 @@ use Rattle.tsn_edit.specs.Configuration.{IsWellKept}
 use Rattle.tsn_config.specs.Ids.{ids_of}
 use Rattle.tsn_export.specs.Text.{exported}
 use Rattle.tsn_undo.specs.Ledger.{present}
-use Rattle.tsn_bridge.specs.declared.reply.Reply.TheVariants.{Refused, Setup}
+use Rattle.tsn_commands.specs.declared.reply.Reply.TheVariants.{Refused, Setup}
 use Rattle.tsn_bridge.specs.Acts.{has_list}
 use Rattle.tsn_bridge.specs.Reads.{list_rule, record_has_list, setup_rule, show_rule}
 use Rattle.tsn_bridge.specs.Rule.{Allows, is_given}

@@ -7,11 +7,11 @@ use Rattle.tsn_types.specs.Limits.{unless}
 use Rattle.tsn_types.specs.Refusals.{IsLeastOrMemory, least, rank_of}
 use Rattle.tsn_edit.specs.declared.Edit.{Edit}
 use Rattle.tsn_edit.specs.Batches.{change_of}
-use Rattle.tsn_journal.specs.declared.entries.What.TheVariants.{Made}
+use Rattle.tsn_entries.specs.declared.entries.What.TheVariants.{Made}
 use Rattle.tsn_undo.specs.Ledger.{Ledger, present}
 use Rattle.tsn_undo.specs.Steps.{Edits, edit_refusal}
-use Rattle.tsn_bridge.specs.declared.reply.Reply.{Reply}
-use Rattle.tsn_bridge.specs.declared.reply.Reply.TheVariants.{Entry, Refused}
+use Rattle.tsn_commands.specs.declared.reply.Reply.{Reply}
+use Rattle.tsn_commands.specs.declared.reply.Reply.TheVariants.{Entry, Refused}
 use Rattle.tsn_bridge.specs.Names.{GivenOut}
 use Rattle.tsn_bridge.specs.Pair.{PairState}
 use Rattle.tsn_bridge.specs.State.{State}

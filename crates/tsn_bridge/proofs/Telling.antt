@@ -14,9 +14,9 @@ use Rattle.tsn_types.specs.Refusals.{IsLeastOrMemory}
 use Rattle.tsn_types.proofs.Causes.{first_cause-append, option_or-None}
 use Rattle.tsn_edit.specs.Configuration.{IsWellKept}
 use Rattle.tsn_schedule.specs.declared.runner.Past.{Past as TooEarly}
-use Rattle.tsn_journal.specs.declared.entries.Act.{Act as Asked}
-use Rattle.tsn_journal.specs.declared.entries.Act.TheVariants as asked
-use Rattle.tsn_journal.specs.Entries.{no_room}
+use Rattle.tsn_entries.specs.declared.entries.Act.{Act as Asked}
+use Rattle.tsn_entries.specs.declared.entries.Act.TheVariants as asked
+use Rattle.tsn_entries.specs.Entries.{no_room}
 use Rattle.tsn_chain.specs.declared.state.Counters.{Counters}
 use Rattle.tsn_chain.specs.declared.state.Counters.TheVariants as counters
 use Rattle.tsn_chain.specs.declared.state.State.{State as Shown}

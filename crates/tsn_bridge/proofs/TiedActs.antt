@@ -21,12 +21,12 @@ use Rattle.tsn_edit.proofs.KeyFacts.{after_or, get-after_change, one_key, part_o
 use Rattle.tsn_schedule.specs.Acts.{Act, Apply, Disable, Enable, with_act}
 use Rattle.tsn_schedule.specs.Kept.{Kept}
 use Rattle.tsn_schedule.specs.Stands.{StandsFor}
-use Rattle.tsn_journal.specs.declared.entries.Act.{Act as Asked}
-use Rattle.tsn_journal.specs.declared.entries.Act.TheVariants as asked
-use Rattle.tsn_journal.specs.declared.entries.Entry.{Entry}
-use Rattle.tsn_journal.specs.declared.entries.What.{What}
-use Rattle.tsn_journal.specs.declared.entries.What.TheVariants.{Made, Undone, Redone, Acted, Settled}
-use Rattle.tsn_journal.specs.Entries.{applies}
+use Rattle.tsn_entries.specs.declared.entries.Act.{Act as Asked}
+use Rattle.tsn_entries.specs.declared.entries.Act.TheVariants as asked
+use Rattle.tsn_entries.specs.declared.entries.Entry.{Entry}
+use Rattle.tsn_entries.specs.declared.entries.What.{What}
+use Rattle.tsn_entries.specs.declared.entries.What.TheVariants.{Made, Undone, Redone, Acted, Settled}
+use Rattle.tsn_entries.specs.Entries.{applies}
 use Rattle.tsn_undo.specs.Ledger.{Ledger, enter, present}
 use Rattle.tsn_undo.specs.Soundness.{configuration}
 use Rattle.tsn_undo.proofs.Adding.{nothing_push}

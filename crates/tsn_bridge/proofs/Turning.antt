@@ -1,18 +1,18 @@
 -- The turns of a desk are steps of the machine, so its history leads where they do.
 use Rattle.std.proofs.Common.{List, [], ◌∷◌, sym}
-use Rattle.tsn_desk.specs.declared.history.Entry.{Entry}
-use Rattle.tsn_desk.specs.History.{Runs}
+use Rattle.tsn_machine.specs.declared.history.Entry.{Entry}
+use Rattle.tsn_machine.specs.History.{Runs}
 use Rattle.tsn_undo.specs.Commuting.{Commutes, IsClosed}
 use Rattle.tsn_undo.specs.Ledger.{base_of}
 use Rattle.tsn_undo.proofs.Adding.{kept_base}
 use Rattle.tsn_undo.proofs.Commutation.{commutation}
-use Rattle.tsn_journal.specs.Entries.{Applied, standing}
+use Rattle.tsn_entries.specs.Entries.{Applied, standing}
 use Rattle.tsn_types.specs.declared.keys.Key.{Key}
 use Rattle.tsn_types.specs.declared.limits.Limits.{Limits}
 use Rattle.tsn_types.specs.declared.records.Record.{Record}
 use Rattle.std.specs.Prelude.{Bool}
-use Rattle.tsn_bridge.specs.declared.command.Ask.{Ask}
-use Rattle.tsn_bridge.specs.declared.reply.Reply.{Reply}
+use Rattle.tsn_commands.specs.declared.command.Ask.{Ask}
+use Rattle.tsn_commands.specs.declared.reply.Reply.{Reply}
 use Rattle.tsn_bridge.specs.Beginning.{Opens, begun}
 use Rattle.tsn_bridge.specs.Histories.{AreInRange, Leads, StateIsSound}
 use Rattle.tsn_bridge.specs.Later.{IsWhole}

@@ -8,15 +8,15 @@ use Rattle.tsn_types.specs.Limits.{unless}
 use Rattle.tsn_types.specs.Refusals.{least, rank_of}
 use Rattle.tsn_edit.specs.Runs.{run}
 use Rattle.tsn_edit.proofs.KeyFacts.{by_bool}
-use Rattle.tsn_journal.specs.Entries.{Applied, changes, most_entries, no_room, standing}
-use Rattle.tsn_journal.specs.Finding.{find_conflict_of_others, find_own_in_conflict, own_standing}
+use Rattle.tsn_entries.specs.Entries.{Applied, changes, most_entries, no_room, standing}
+use Rattle.tsn_entries.specs.Finding.{find_conflict_of_others, find_own_in_conflict, own_standing}
 use Rattle.tsn_undo.specs.Ledger.{base_of}
 use Rattle.tsn_undo.specs.UndoAll.{BlocksAll, conflict_with_others, undo_all_cause, undo_all_refusal}
 use Rattle.tsn_undo.proofs.Named.{names_conflict}
 use Rattle.tsn_undo.proofs.UndoAll.{undo_all_refusal-first}
-use Rattle.tsn_bridge.specs.declared.command.Command.TheVariants as commands
-use Rattle.tsn_bridge.specs.declared.reply.Reply.{Reply}
-use Rattle.tsn_bridge.specs.declared.reply.Reply.TheVariants.{Refused, TakenBack}
+use Rattle.tsn_commands.specs.declared.command.Command.TheVariants as commands
+use Rattle.tsn_commands.specs.declared.reply.Reply.{Reply}
+use Rattle.tsn_commands.specs.declared.reply.Reply.TheVariants.{Refused, TakenBack}
 use Rattle.tsn_bridge.specs.Edits.{undo_all_rule}
 use Rattle.tsn_bridge.specs.Headline.{WhyNotAll}
 use Rattle.tsn_bridge.specs.Histories.{StateIsSound}

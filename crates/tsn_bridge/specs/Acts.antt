@@ -16,13 +16,13 @@ use Rattle.tsn_schedule.specs.Acts.{is_enabled}
 use Rattle.tsn_schedule.specs.Counters.{enabled_change}
 use Rattle.tsn_schedule.specs.Refusing.{has_entries}
 use Rattle.tsn_schedule.specs.Times.{change_of}
-use Rattle.tsn_journal.specs.declared.entries.Act.{Act as Asked}
-use Rattle.tsn_journal.specs.declared.entries.Act.TheVariants as asked
-use Rattle.tsn_journal.specs.declared.entries.What.TheVariants.{Acted}
-use Rattle.tsn_journal.specs.Entries.{no_room}
+use Rattle.tsn_entries.specs.declared.entries.Act.{Act as Asked}
+use Rattle.tsn_entries.specs.declared.entries.Act.TheVariants as asked
+use Rattle.tsn_entries.specs.declared.entries.What.TheVariants.{Acted}
+use Rattle.tsn_entries.specs.Entries.{no_room}
 use Rattle.tsn_undo.specs.Ledger.{Ledger, enter, present}
-use Rattle.tsn_bridge.specs.declared.reply.Reply.{Reply}
-use Rattle.tsn_bridge.specs.declared.reply.Reply.TheVariants as replies
+use Rattle.tsn_commands.specs.declared.reply.Reply.{Reply}
+use Rattle.tsn_commands.specs.declared.reply.Reply.TheVariants as replies
 use Rattle.tsn_bridge.specs.Objects.{gate_at, port_at}
 use Rattle.tsn_bridge.specs.Rule.{Rule, no_session}
 use Rattle.tsn_bridge.specs.State.{State}

@@ -4,7 +4,7 @@ use Rattle.tsn_types.specs.Bounds.{AreInRange}
 use Rattle.tsn_types.specs.declared.keys.Key.{Key}
 use Rattle.tsn_types.specs.declared.records.Record.{Record}
 use Rattle.tsn_types.specs.declared.limits.Limits.{Limits}
-use Rattle.tsn_config.specs.Opening.{AreOfKind, RecordsInRange, opening, opening_refusal}
+use Rattle.tsn_config.specs.Opening.{AreOfKind, RecordsInRange, opening, opening_refusal, standard_limits}
 use Rattle.tsn_chain.specs.Begun.{begun_frames}
 use Rattle.tsn_bridge.specs.State.{State}
 
@@ -25,10 +25,6 @@ pub record Opens (limits : Limits) (records : List (Key × Record)) : Type 0 whe
   pub kinds : AreOfKind records
   pub ranges : RecordsInRange records
   pub admitted : opening_refusal limits records ≡ None
-
--- 2 ports, tables of 16 instances, lists of up to 16 entries
-abbrev pub standard_limits : Limits
-standard_limits = record { ports = 2; filters = 16; gates = 16; meters = 16; list = 16 }
 
 -- a bridge of which nothing was said
 abbrev pub standard : State

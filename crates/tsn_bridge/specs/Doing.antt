@@ -5,8 +5,8 @@ use Rattle.tsn_types.specs.declared.keys.Key.{Key}
 use Rattle.tsn_types.specs.declared.records.Record.{Record}
 use Rattle.tsn_schedule.specs.Acts.{Disable, Enable}
 use Rattle.tsn_schedule.specs.Counters.{enabled_change}
-use Rattle.tsn_journal.specs.declared.entries.Act.{Act as Asked}
-use Rattle.tsn_journal.specs.declared.entries.Act.TheVariants as asked
+use Rattle.tsn_entries.specs.declared.entries.Act.{Act as Asked}
+use Rattle.tsn_entries.specs.declared.entries.Act.TheVariants as asked
 use Rattle.tsn_chain.specs.Acts.{KeyActs, KeyAnswers, KeyApplies}
 use Rattle.tsn_chain.specs.Instances.{Runners}
 use Rattle.tsn_bridge.specs.Acts.{apply_change}

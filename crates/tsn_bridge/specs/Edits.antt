@@ -6,16 +6,16 @@ use Rattle.tsn_edit.specs.declared.Edit.{Edit}
 use Rattle.tsn_edit.specs.Batches.{change_of}
 use Rattle.tsn_edit.specs.Parts.{Change, inverse}
 use Rattle.tsn_chain.specs.Following.{frames_after}
-use Rattle.tsn_journal.specs.declared.entries.What.{What}
-use Rattle.tsn_journal.specs.declared.entries.What.TheVariants.{Made}
-use Rattle.tsn_journal.specs.Entries.{Applied, redone, undone}
-use Rattle.tsn_journal.specs.Finding.{last_of, own_standing, redo_of}
+use Rattle.tsn_entries.specs.declared.entries.What.{What}
+use Rattle.tsn_entries.specs.declared.entries.What.TheVariants.{Made}
+use Rattle.tsn_entries.specs.Entries.{Applied, redone, undone}
+use Rattle.tsn_entries.specs.Finding.{last_of, own_standing, redo_of}
 use Rattle.tsn_undo.specs.Ledger.{enter, present}
 use Rattle.tsn_undo.specs.Redo.{WhyNoRedo}
 use Rattle.tsn_undo.specs.Steps.{edit_refusal, undo_refusal}
 use Rattle.tsn_undo.specs.UndoAll.{undo_all_refusal, with_undone}
-use Rattle.tsn_bridge.specs.declared.reply.Reply.{Reply}
-use Rattle.tsn_bridge.specs.declared.reply.Reply.TheVariants.{Entry, EntryOf, TakenBack}
+use Rattle.tsn_commands.specs.declared.reply.Reply.{Reply}
+use Rattle.tsn_commands.specs.declared.reply.Reply.TheVariants.{Entry, EntryOf, TakenBack}
 use Rattle.tsn_bridge.specs.State.{State}
 use Rattle.tsn_bridge.specs.Together.{undone_by}
 use Rattle.tsn_bridge.specs.Rule.{Allows, Rule, no_session}

@@ -14,15 +14,16 @@ use Rattle.tsn_chain.specs.declared.state.State.{State as Shown}
 use Rattle.tsn_chain.specs.Examples.{Coming, filter_0, frame_of, left_by, no_meter}
 use Rattle.tsn_chain.specs.Following.{frames_after}
 use Rattle.tsn_chain.specs.Instances.{FrameData}
-use Rattle.tsn_journal.specs.declared.entries.Act.TheVariants as asked
-use Rattle.tsn_journal.specs.declared.entries.Entry.{Entry}
-use Rattle.tsn_journal.specs.declared.entries.What.{What}
-use Rattle.tsn_journal.specs.declared.entries.What.TheVariants.{Acted, Made, Undone}
-use Rattle.tsn_journal.specs.Entries.{Applied, with_entry}
+use Rattle.tsn_entries.specs.declared.entries.Act.TheVariants as asked
+use Rattle.tsn_entries.specs.declared.entries.Entry.{Entry}
+use Rattle.tsn_entries.specs.declared.entries.What.{What}
+use Rattle.tsn_entries.specs.declared.entries.What.TheVariants.{Acted, Made, Undone}
+use Rattle.tsn_entries.specs.Entries.{Applied, with_entry}
 use Rattle.tsn_undo.specs.Examples.{change, edits, filter, gate}
 use Rattle.tsn_undo.specs.Ledger.{Ledger}
-use Rattle.tsn_bridge.specs.Beginning.{standard, standard_limits}
-use Rattle.tsn_bridge.specs.declared.reply.Reply.{Reply}
+use Rattle.tsn_bridge.specs.Beginning.{standard}
+use Rattle.tsn_config.specs.Opening.{standard_limits}
+use Rattle.tsn_commands.specs.declared.reply.Reply.{Reply}
 use Rattle.tsn_bridge.specs.Frames.{frame_rule}
 use Rattle.tsn_bridge.specs.Looking.{shown_at}
 use Rattle.tsn_bridge.specs.State.{State}

@@ -4,12 +4,12 @@ use Rattle.tsn_chain.specs.Begun.{no_frames}
 use Rattle.tsn_chain.specs.declared.frame.Frame.{Frame}
 use Rattle.tsn_edit.specs.declared.Edit.{Edit}
 use Rattle.tsn_edit.specs.declared.Edit.TheVariants as edits
-use Rattle.tsn_journal.specs.declared.entries.Act.{Act as Asked}
-use Rattle.tsn_journal.specs.declared.entries.Act.TheVariants as asked
+use Rattle.tsn_entries.specs.declared.entries.Act.{Act as Asked}
+use Rattle.tsn_entries.specs.declared.entries.Act.TheVariants as asked
 use Rattle.tsn_types.specs.declared.keys.Key.{Key}
 use Rattle.tsn_undo.specs.Redo.{WhyNoRedo}
-use Rattle.tsn_bridge.specs.declared.command.Command.{Command}
-use Rattle.tsn_bridge.specs.declared.command.Command.TheVariants as commands
+use Rattle.tsn_commands.specs.declared.command.Command.{Command}
+use Rattle.tsn_commands.specs.declared.command.Command.TheVariants as commands
 use Rattle.tsn_bridge.specs.Acts.{act_rule}
 use Rattle.tsn_bridge.specs.Edits.{edit_rule, redo_rule, undo_all_rule, undo_rule}
 use Rattle.tsn_bridge.specs.Frames.{frame_rule}
@@ -57,12 +57,6 @@ family (commands.Since after) = Looking (λ s n. since_look s n after)
 family commands.Resume = Looking resume_look
 family commands.Sessions = Looking sessions_look
 family commands.Setup = Looking setup_look
-
--- an act on a key at an instant, as a command
-abbrev pub act_command : Asked → Key → ℕ → Command
-act_command asked.Enable = commands.Enable
-act_command asked.Disable = commands.Disable
-act_command asked.Apply = commands.Apply
 
 -- a state as a look at what a journal keeps sees it: neither the bridge time nor what the filter chain keeps
 abbrev pub seen_by_looks : State → State

@@ -5,8 +5,8 @@ use Rattle.tsn_chain.specs.declared.frame.Verdict.{Verdict}
 use Rattle.tsn_chain.specs.Frames.{GateActs, framed}
 use Rattle.tsn_chain.specs.Instances.{FrameData}
 use Rattle.tsn_undo.specs.Ledger.{Ledger, present}
-use Rattle.tsn_bridge.specs.declared.reply.Reply.{Reply}
-use Rattle.tsn_bridge.specs.declared.reply.Reply.TheVariants as replies
+use Rattle.tsn_commands.specs.declared.reply.Reply.{Reply}
+use Rattle.tsn_commands.specs.declared.reply.Reply.TheVariants as replies
 use Rattle.tsn_bridge.specs.Acts.{instant}
 use Rattle.tsn_bridge.specs.Objects.{gate_at}
 use Rattle.tsn_bridge.specs.Rule.{Rule, no_session}

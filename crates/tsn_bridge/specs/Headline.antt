@@ -18,20 +18,21 @@ use Rattle.tsn_edit.specs.Parts.{Part, parts}
 use Rattle.tsn_edit.specs.Runs.{IsGood}
 use Rattle.tsn_schedule.specs.Entries.{entry_at}
 use Rattle.tsn_schedule.specs.Times.{change_of}
-use Rattle.tsn_journal.specs.declared.entries.Entry.{Entry as AnyEntry}
-use Rattle.tsn_journal.specs.Entries.{Applied, changes, no_room, standing}
-use Rattle.tsn_journal.specs.Finding.{last_of, others_standing, own_standing, standing_entry}
+use Rattle.tsn_entries.specs.declared.entries.Entry.{Entry as AnyEntry}
+use Rattle.tsn_entries.specs.Entries.{Applied, changes, no_room, standing}
+use Rattle.tsn_entries.specs.Finding.{last_of, others_standing, own_standing, standing_entry}
 use Rattle.tsn_chain.specs.declared.state.State.{State as Shown}
 use Rattle.tsn_chain.specs.declared.state.State.TheVariants as states
 use Rattle.tsn_undo.specs.Commuting.{first_on}
 use Rattle.tsn_undo.specs.Ledger.{base_of, present}
 use Rattle.tsn_undo.specs.Steps.{LeavesStanding, standing_without}
 use Rattle.tsn_undo.specs.UndoAll.{BlocksAll, others_alone}
-use Rattle.tsn_bridge.specs.declared.command.Command.{Command}
-use Rattle.tsn_bridge.specs.declared.command.Command.TheVariants as commands
-use Rattle.tsn_bridge.specs.declared.reply.Reply.{Reply}
-use Rattle.tsn_bridge.specs.declared.reply.Reply.TheVariants.{Acted, Entry, EntryOf, Refused, States, TakenBack}
-use Rattle.tsn_bridge.specs.Histories.{AreInRange, CommandInRange, Leads, Answered, edits_of}
+use Rattle.tsn_commands.specs.declared.command.Command.{Command}
+use Rattle.tsn_commands.specs.declared.command.Command.TheVariants as commands
+use Rattle.tsn_commands.specs.declared.reply.Reply.{Reply}
+use Rattle.tsn_commands.specs.declared.reply.Reply.TheVariants.{Acted, Entry, EntryOf, Refused, States, TakenBack}
+use Rattle.tsn_bridge.specs.Histories.{AreInRange, Leads, Answered, edits_of}
+use Rattle.tsn_commands.specs.Commands.{CommandInRange}
 use Rattle.tsn_bridge.specs.Machine.{Step}
 use Rattle.tsn_bridge.specs.Quiet.{SinceQuiet}
 use Rattle.tsn_bridge.specs.Rule.{is_given}

@@ -6,10 +6,11 @@ use Rattle.tsn_types.specs.Names.{is_name}
 use Rattle.tsn_edit.specs.declared.Edit.{Edit}
 use Rattle.tsn_edit.specs.Batches.{EditsInRange, IsBatch}
 use Rattle.tsn_undo.specs.Soundness.{IsSound}
-use Rattle.tsn_bridge.specs.declared.command.Ask.{Ask}
-use Rattle.tsn_bridge.specs.declared.command.Command.{Command}
-use Rattle.tsn_bridge.specs.declared.command.Command.TheVariants as commands
-use Rattle.tsn_bridge.specs.declared.reply.Reply.{Reply}
+use Rattle.tsn_commands.specs.Commands.{CommandInRange}
+use Rattle.tsn_commands.specs.declared.command.Ask.{Ask}
+use Rattle.tsn_commands.specs.declared.command.Command.{Command}
+use Rattle.tsn_commands.specs.declared.command.Command.TheVariants as commands
+use Rattle.tsn_commands.specs.declared.reply.Reply.{Reply}
 use Rattle.tsn_bridge.specs.Families.{Editing, Family, family}
 use Rattle.tsn_bridge.specs.Machine.{Step}
 use Rattle.tsn_bridge.specs.State.{State}
@@ -27,14 +28,6 @@ pub record Answered : Type 0 where
 abbrev pub Leads : State → List Answered → State → Type 0
 Leads s [] new = new ≡ s
 Leads s (t ∷ ts) new = (between : State) × Answers s t.ask t.reply between × Leads between ts new
-
--- the numbers of a command's records are in their ranges, a batch is 1 to 16 edits, on distinct keys, and a name may be one
-abbrev pub CommandInRange : Command → Type 0
-CommandInRange (commands.Hello name) = IfSome name (λ text. is_name text ≡ true)
-CommandInRange (commands.Create k r) = RecordInRange r
-CommandInRange (commands.Replace k r) = RecordInRange r
-CommandInRange (commands.Batch batch) = IsBatch batch × EditsInRange batch
-CommandInRange command = ⊤
 
 -- the edits that a command asks for: one, or those of a batch; none where it asks for something else
 abbrev pub batch_of : Family → Option (List Edit)

@@ -2,9 +2,9 @@
 use Rattle.std.specs.Prelude.{◌≡◌, ◌≤◌, ℕ, List, ◌++◌, MatchOption, ⊤}
 use Rattle.std.specs.List.{AllByRecursion}
 use Rattle.tsn_chain.specs.Instances.{HasFrameKeys}
-use Rattle.tsn_journal.specs.declared.entries.Entry.{Entry}
-use Rattle.tsn_journal.specs.declared.entries.What.{What}
-use Rattle.tsn_journal.specs.Entries.{act_of}
+use Rattle.tsn_entries.specs.declared.entries.Entry.{Entry}
+use Rattle.tsn_entries.specs.declared.entries.What.{What}
+use Rattle.tsn_entries.specs.Entries.{act_of}
 use Rattle.tsn_undo.specs.Ledger.{present}
 use Rattle.tsn_bridge.specs.declared.sessions.Named.{Named}
 use Rattle.tsn_bridge.specs.Histories.{StateIsSound}

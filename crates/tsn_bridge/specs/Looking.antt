@@ -16,7 +16,7 @@ use Rattle.tsn_chain.specs.Counters.{gate_counters, list_counters}
 use Rattle.tsn_chain.specs.Instances.{FrameData}
 use Rattle.tsn_chain.specs.State.{gate_state, port_state}
 use Rattle.tsn_undo.specs.Ledger.{Ledger, present}
-use Rattle.tsn_bridge.specs.declared.reply.Reply.TheVariants as replies
+use Rattle.tsn_commands.specs.declared.reply.Reply.TheVariants as replies
 use Rattle.tsn_bridge.specs.Acts.{key_causes, list_causes}
 use Rattle.tsn_bridge.specs.Objects.{gate_at, port_at}
 use Rattle.tsn_bridge.specs.Rule.{Look, Rule, look_rule}

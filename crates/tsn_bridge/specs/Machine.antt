@@ -1,7 +1,7 @@
 -- The bridge as a machine: what a command of a session may be answered, and the state after it.
 use Rattle.std.specs.Prelude.{ℕ}
-use Rattle.tsn_bridge.specs.declared.command.Command.{Command}
-use Rattle.tsn_bridge.specs.declared.reply.Reply.{Reply}
+use Rattle.tsn_commands.specs.declared.command.Command.{Command}
+use Rattle.tsn_commands.specs.declared.reply.Reply.{Reply}
 use Rattle.tsn_bridge.specs.Families.{Family, OfRule, family}
 use Rattle.tsn_bridge.specs.Rule.{Allows}
 use Rattle.tsn_bridge.specs.State.{State}

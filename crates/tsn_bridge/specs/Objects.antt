@@ -13,11 +13,11 @@ use Rattle.tsn_types.specs.Keys.{same_key}
 use Rattle.tsn_edit.specs.Changes.{part_of}
 use Rattle.tsn_edit.specs.Parts.{Change, Part, parts}
 use Rattle.tsn_schedule.specs.Acts.{Act, Enable, Disable, Apply, with_act}
-use Rattle.tsn_journal.specs.Entries.{Asked, act_of, applies}
-use Rattle.tsn_journal.specs.declared.entries.Act.{Act as AskedAct}
-use Rattle.tsn_journal.specs.declared.entries.Act.TheVariants as asked
-use Rattle.tsn_journal.specs.declared.entries.What.{What}
-use Rattle.tsn_journal.specs.declared.entries.Entry.{Entry}
+use Rattle.tsn_entries.specs.Entries.{Asked, act_of, applies}
+use Rattle.tsn_entries.specs.declared.entries.Act.{Act as AskedAct}
+use Rattle.tsn_entries.specs.declared.entries.Act.TheVariants as asked
+use Rattle.tsn_entries.specs.declared.entries.What.{What}
+use Rattle.tsn_entries.specs.declared.entries.Entry.{Entry}
 use Rattle.tsn_undo.specs.Ledger.{Ledger}
 
 -- an object: its record, none while it is absent, and its acts since it was last created, the latest first

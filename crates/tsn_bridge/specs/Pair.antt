@@ -3,8 +3,8 @@
 use Rattle.std.specs.Prelude.{refl, ℕ, max}
 use Rattle.std.specs.Coded.{Coded, code_by, coded×, coded_ℕ}
 use Rattle.tsn_types.specs.declared.keys.Key.{Key}
-use Rattle.tsn_journal.specs.declared.entries.Act.{Act as Asked}
-use Rattle.tsn_journal.specs.declared.entries.What.TheVariants.{Acted}
+use Rattle.tsn_entries.specs.declared.entries.Act.{Act as Asked}
+use Rattle.tsn_entries.specs.declared.entries.What.TheVariants.{Acted}
 use Rattle.tsn_undo.specs.Ledger.{Ledger, enter, ledger_code}
 use Rattle.tsn_chain.specs.Instances.{FrameData, frames_code}
 

@@ -5,11 +5,11 @@ use Rattle.tsn_types.specs.declared.keys.Key.{Key}
 use Rattle.tsn_types.specs.Keys.{same_key}
 use Rattle.tsn_edit.specs.Changes.{part_of}
 use Rattle.tsn_edit.specs.Parts.{Part, parts}
-use Rattle.tsn_journal.specs.Entries.{act_of, applies}
-use Rattle.tsn_journal.specs.declared.entries.Act.{Act}
-use Rattle.tsn_journal.specs.declared.entries.Act.TheVariants as asked
-use Rattle.tsn_journal.specs.declared.entries.Entry.{Entry}
-use Rattle.tsn_journal.specs.declared.entries.What.{What}
+use Rattle.tsn_entries.specs.Entries.{act_of, applies}
+use Rattle.tsn_entries.specs.declared.entries.Act.{Act}
+use Rattle.tsn_entries.specs.declared.entries.Act.TheVariants as asked
+use Rattle.tsn_entries.specs.declared.entries.Entry.{Entry}
+use Rattle.tsn_entries.specs.declared.entries.What.{What}
 use Rattle.tsn_bridge.specs.Histories.{AreInRange, Leads, Answered}
 use Rattle.tsn_bridge.specs.State.{State}
 

@@ -8,10 +8,10 @@ use Rattle.tsn_types.specs.declared.records.Record.TheVariants as records
 use Rattle.tsn_types.specs.declared.refusals.Refusal.{Refusal}
 use Rattle.tsn_config.specs.Ids.{ids_of}
 use Rattle.tsn_export.specs.Text.{exported}
-use Rattle.tsn_journal.specs.Finding.{since}
+use Rattle.tsn_entries.specs.Finding.{since}
 use Rattle.tsn_undo.specs.Ledger.{present}
-use Rattle.tsn_bridge.specs.declared.reply.Reply.{Reply}
-use Rattle.tsn_bridge.specs.declared.reply.Reply.TheVariants.{Entries, Ids, Refused, Setup, Shown}
+use Rattle.tsn_commands.specs.declared.reply.Reply.{Reply}
+use Rattle.tsn_commands.specs.declared.reply.Reply.TheVariants.{Entries, Ids, Refused, Setup, Shown}
 use Rattle.tsn_bridge.specs.Acts.{has_list, key_causes}
 use Rattle.tsn_bridge.specs.State.{State}
 use Rattle.tsn_bridge.specs.Rule.{Look, Rule, look_rule, no_session}

@@ -2,7 +2,7 @@
 use Rattle.std.specs.Prelude.{◌≡◌, ℕ, Option, None}
 use Rattle.tsn_types.specs.declared.refusals.Refusal.{Refusal}
 use Rattle.tsn_types.specs.Refusals.{least}
-use Rattle.tsn_bridge.specs.declared.command.Command.{Command}
+use Rattle.tsn_commands.specs.declared.command.Command.{Command}
 use Rattle.tsn_bridge.specs.Families.{Counting, Family, Framing, Looking, OfRule, family}
 use Rattle.tsn_bridge.specs.State.{State}
 

@@ -4,8 +4,8 @@ use Rattle.tsn_types.specs.declared.refusals.Refusal.{Refusal}
 use Rattle.tsn_types.specs.declared.refusals.Refusal.TheVariants.{NoSession, Memory}
 use Rattle.tsn_types.specs.Limits.{unless}
 use Rattle.tsn_types.specs.Refusals.{least}
-use Rattle.tsn_bridge.specs.declared.reply.Reply.{Reply}
-use Rattle.tsn_bridge.specs.declared.reply.Reply.TheVariants.{Known, Refused}
+use Rattle.tsn_commands.specs.declared.reply.Reply.{Reply}
+use Rattle.tsn_commands.specs.declared.reply.Reply.TheVariants.{Known, Refused}
 use Rattle.tsn_bridge.specs.State.{State}
 
 pub record Rule : Type 0 where

@@ -3,18 +3,15 @@ use Rattle.std.specs.Prelude.{ℕ, ◌+◌, zero, suc, true, false, List, [], �
 use Rattle.tsn_types.specs.declared.refusals.Field.TheVariants as fields
 use Rattle.tsn_types.specs.declared.refusals.Refusal.TheVariants.{Range}
 use Rattle.tsn_types.specs.Limits.{unless}
-use Rattle.tsn_journal.specs.declared.entries.Entry.{Entry}
-use Rattle.tsn_journal.specs.Finding.{own_standing}
-use Rattle.tsn_bridge.specs.declared.reply.Reply.TheVariants.{Known, Session, Sessions}
-use Rattle.tsn_bridge.specs.declared.sessions.GivenSession.{GivenSession}
+use Rattle.tsn_entries.specs.declared.entries.Entry.{Entry}
+use Rattle.tsn_entries.specs.Finding.{own_standing}
+use Rattle.tsn_commands.specs.declared.reply.Reply.TheVariants.{Known, Session, Sessions}
+use Rattle.tsn_entries.specs.declared.sessions.GivenSession.{GivenSession}
 use Rattle.tsn_bridge.specs.declared.sessions.Named.{Named}
+use Rattle.tsn_commands.specs.Commands.{most_sessions}
 use Rattle.tsn_bridge.specs.Names.{known, name_of, with_name}
 use Rattle.tsn_bridge.specs.State.{State}
 use Rattle.tsn_bridge.specs.Rule.{Look, Rule, look_rule, no_session}
-
--- how many sessions a bridge gives out at most
-abbrev pub most_sessions : ℕ
-most_sessions = 65535
 
 -- a session more: the next number is given out, while there is one, and goes by the name, if one is said
 abbrev pub new_session : State → Option (List ℕ) → Rule

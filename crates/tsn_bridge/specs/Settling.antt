@@ -1,9 +1,9 @@
 -- The rule of a settle: it makes one entry, and changes neither a record nor what the filter chain keeps.
 use Rattle.std.specs.Prelude.{ℕ, true, [], ◌∷◌, Some}
-use Rattle.tsn_journal.specs.declared.entries.What.TheVariants as whats
+use Rattle.tsn_entries.specs.declared.entries.What.TheVariants as whats
 use Rattle.tsn_undo.specs.Ledger.{enter}
 use Rattle.tsn_undo.specs.Settling.{settle_refusal}
-use Rattle.tsn_bridge.specs.declared.reply.Reply.TheVariants.{Settled}
+use Rattle.tsn_commands.specs.declared.reply.Reply.TheVariants.{Settled}
 use Rattle.tsn_bridge.specs.Edits.{next}
 use Rattle.tsn_bridge.specs.State.{State}
 use Rattle.tsn_bridge.specs.Rule.{Rule, no_session}

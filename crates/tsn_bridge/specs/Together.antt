@@ -3,9 +3,9 @@ use Rattle.std.specs.Prelude.{◌≡◌, ℕ, ◌+◌, zero, suc, List, [], ◌�
 use Rattle.std.specs.Option.{option_map_or}
 use Rattle.tsn_edit.specs.Changes.{room_of}
 use Rattle.tsn_edit.specs.Parts.{Change, inverse}
-use Rattle.tsn_journal.specs.declared.entries.Entry.{Entry}
-use Rattle.tsn_journal.specs.Entries.{Applied}
-use Rattle.tsn_journal.specs.Finding.{change_at}
+use Rattle.tsn_entries.specs.declared.entries.Entry.{Entry}
+use Rattle.tsn_entries.specs.Entries.{Applied}
+use Rattle.tsn_entries.specs.Finding.{change_at}
 use Rattle.tsn_chain.specs.Following.{frames_after}
 use Rattle.tsn_bridge.specs.Pair.{PairState}
 

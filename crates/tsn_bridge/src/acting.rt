@@ -4,7 +4,7 @@ ghost use Rattle.std.specs.FinMap as map;
 ghost use Rattle.tsn_types.specs.Lent.{lent_record};
 ghost use Rattle.tsn_chain.specs.Acts.{HasList, KeyRefuses};
 ghost use Rattle.tsn_chain.specs.Instances.{HasRunner};
-ghost use Rattle.tsn_journal.specs.declared.entries.Act.TheVariants as asked;
+ghost use Rattle.tsn_entries.specs.declared.entries.Act.TheVariants as asked;
 ghost use Rattle.tsn_bridge.specs.Acts.{has_entry, says_enabled};
 ghost use Rattle.tsn_bridge.specs.Doing.{Changes, Does};
 

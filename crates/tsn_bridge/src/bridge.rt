@@ -12,14 +12,15 @@ ghost use Rattle.tsn_types.specs.Refusals.{least};
 ghost use Rattle.tsn_edit.specs.Configuration.{IsWellKept};
 ghost use Rattle.tsn_edit.specs.Runs.{run, IsGood};
 ghost use Rattle.tsn_config.specs.Opening.{limits_cause, opening_refusal};
-ghost use Rattle.tsn_journal.specs.Entries.{changes, no_room, standing};
-ghost use Rattle.tsn_journal.specs.Marks.{entries_of};
+ghost use Rattle.tsn_entries.specs.Entries.{changes, no_room, standing};
+ghost use Rattle.tsn_entries.specs.Marks.{entries_of};
 ghost use Rattle.tsn_undo.specs.Ledger.{base_of, present};
 ghost use Rattle.tsn_undo.specs.Soundness.{IsSound};
 ghost use Rattle.tsn_types.specs.Limits.{first_cause};
-ghost use Rattle.tsn_bridge.specs.declared.reply.Reply.TheVariants.{Entries, Refused, Shown};
+ghost use Rattle.tsn_commands.specs.declared.reply.Reply.TheVariants.{Entries, Refused, Shown};
 ghost use Rattle.tsn_bridge.specs.Acts.{act_causes, act_rule, instant, key_causes, list_causes};
-ghost use Rattle.tsn_bridge.specs.Beginning.{IsOpened, Opens, begun, standard_limits};
+ghost use Rattle.tsn_bridge.specs.Beginning.{IsOpened, Opens, begun};
+ghost use Rattle.tsn_config.specs.Opening.{standard_limits};
 ghost use Rattle.tsn_bridge.specs.Edits.{AllowsRedo, edit_rule, undo_all_rule, undo_rule};
 ghost use Rattle.tsn_bridge.specs.Frames.{frame_rule};
 ghost use Rattle.tsn_bridge.specs.Later.{IsWhole};
@@ -31,15 +32,17 @@ ghost use Rattle.tsn_bridge.specs.Rule.{Allows, is_given, no_session};
 ghost use Rattle.tsn_bridge.specs.Sessions.{hello_rule, resume_rule, sessions_rule};
 ghost use Rattle.tsn_bridge.specs.Settling.{settle_rule};
 
-use crate::command::Command;
 use crate::pair::Pair;
-use crate::reply::Reply;
 use crate::sessions::{Named, Sessions};
 use std::alloc::{AllocError, Global};
 use std::marker::Model;
 use tsn_chain::frame::Frame;
+use tsn_commands::command::Command;
+pub use tsn_commands::command::MOST_SESSIONS;
+use tsn_commands::reply::Reply;
 use tsn_config::Config;
 use tsn_config::records::Records;
+pub use tsn_config::setup::Setup;
 use tsn_edit::Edit;
 use tsn_edit::batches::Batch;
 use tsn_export::export_setup;
@@ -52,32 +55,6 @@ use tsn_types::names::SessionName;
 use tsn_types::numbers::Instant;
 use tsn_types::records::{Record, RecordRef};
 use tsn_types::refusals::{Field, Refusal};
-
-/// How many sessions a bridge gives out at most.
-pub const MOST_SESSIONS: u32 = 65_535;
-
-/// What a bridge begins with: its limits, and the records of its first configuration.
-#[derive(Debug, Drop)]
-pub struct Setup {
-    pub limits: Limits,
-    pub records: Records,
-}
-
-impl Setup {
-    /// The setup of a bridge of which nothing was said: 2 ports, tables of 16 instances, lists of up to 16 entries and
-    /// no records. An opening of it is refused only for want of memory. It takes no memory itself.
-    #[tactic(auto, using(crate::proofs::Accepted::accepted))]
-    pub fn standard(alloc: Global) -> Setup
-        ensures limits { result.limits ≡ standard_limits }
-        ensures records { result.records ≡ [] }
-        ensures accepted { opening_refusal result.limits result.records ≡ None }
-    {
-        Setup {
-            limits: Limits::new(2, 16, 16, 16, 16).unwrap(),
-            records: Records::new(alloc),
-        }
-    }
-}
 
 /// The state of one bridge.
 #[derive(Drop)]

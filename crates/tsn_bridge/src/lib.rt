@@ -1,4 +1,4 @@
-//! The bridge as a machine: commands in, replies out.
+//! The bridge as a machine: commands in, replies out, as `tsn_commands` has them.
 //!
 //! `Bridge::step` answers one command of one session, whole. The machine that it follows is defined in
 //! `specs/Machine.antt` over the journal of `tsn_undo`, the configuration of `tsn_config` and what the filter chain of
@@ -7,9 +7,9 @@
 
 mod acting;
 pub mod bridge;
-pub mod command;
 pub mod laws;
 mod machine;
 mod pair;
-pub mod reply;
 pub mod sessions;
+
+pub use tsn_commands::{command, reply};

@@ -8,43 +8,9 @@ ghost use Rattle.tsn_bridge.specs.Sessions.{given_to};
 
 use std::alloc::{AllocError, Global};
 use std::marker::Model;
+pub use tsn_entries::sessions::{GivenSession, GivenSessions};
 use tsn_journal::journal::Journal;
 use tsn_types::names::SessionName;
-
-/// A session that was given out.
-#[derive(Debug, Drop)]
-pub struct GivenSession {
-    /// The name by which it goes, if it has one.
-    pub name: Option<SessionName>,
-    /// Its number, from 1.
-    pub session: u32,
-    /// How many of its entries stand.
-    pub standing: u64,
-}
-
-/// Sessions in a list, which contracts see as the list.
-#[derive(Debug, Drop)]
-pub struct GivenSessions {
-    sessions: Vec<GivenSession>,
-}
-
-impl Model for GivenSessions {
-    ghost use Rattle.std.specs.Prelude.{List};
-    ghost use Rattle.tsn_bridge.specs.declared.sessions.GivenSession.{GivenSession};
-
-    ghost Value = { List GivenSession };
-
-    ghost view = { λ a. a.sessions.items };
-}
-
-impl GivenSessions {
-    /// The sessions, ascending.
-    pub fn as_slice(&self) -> &[GivenSession]
-        ensures { result.now ≡ self.now }
-    {
-        self.sessions.as_slice()
-    }
-}
 
 /// A session that goes by a name.
 #[derive(Debug, Drop)]
@@ -156,7 +122,7 @@ impl Sessions {
                 standing,
             })?;
         }
-        Ok(GivenSessions { sessions })
+        Ok(GivenSessions::of(sessions))
     }
 }
 

@@ -1,11 +1,13 @@
-//! Tests of `tsn_bridge` over its public calls alone.
+//! Tests of a desk, of a bridge behind one and of the workers of its ports, over public calls alone.
 //!
-//! They stand beside the crate and not in it, so that proving them does not prove the crate again.
+//! They stand beside the crates and not in them, so that proving them does not prove the crates again.
 #![tactic(auto)]
 
 #[cfg(test)]
+mod bridge;
+#[cfg(test)]
 mod comparing;
 #[cfg(test)]
-mod desks;
+mod desk;
 #[cfg(test)]
-mod tests;
+mod port;

@@ -1,9 +1,15 @@
-//! Tests of `tsn_bytes` over its public calls alone.
+//! Tests of readers and writers, of the text of a journal file and of what keeps it, over public calls alone.
 //!
-//! They stand beside the crate and not in it, so that proving them does not prove the crate again.
+//! They stand beside the crates and not in them, so that proving them does not prove the crates again.
 #![tactic(auto)]
 
 #[cfg(test)]
+mod bytes;
+#[cfg(test)]
+mod commit;
+#[cfg(test)]
 mod comparing;
 #[cfg(test)]
-mod tests;
+mod keeping;
+#[cfg(test)]
+mod recorded;

@@ -3,8 +3,8 @@ use Rattle.std.proofs.Common.{◌≡◌, ℕ, inl, inr, List, [], ◌∷◌, ◌
 use Rattle.tsn_bytes.specs.declared.bytes.Fault.{Fault}
 use Rattle.tsn_desk.specs.declared.desk.Desk.{Desk}
 use Rattle.tsn_desk.specs.Desks.{IsSeatOf}
-use Rattle.tsn_bridge.specs.declared.command.Ask.{Ask}
-use Rattle.tsn_bridge.specs.declared.reply.Reply.{Reply}
+use Rattle.tsn_commands.specs.declared.command.Ask.{Ask}
+use Rattle.tsn_commands.specs.declared.reply.Reply.{Reply}
 use Rattle.tsn_bridge.specs.State.{State}
 use Rattle.tsn_port.specs.Workers.{BridgeSeat, GoesOn}
 use Rattle.tsn_replies.specs.Replies.{reply_text}

@@ -3,16 +3,16 @@ use Rattle.std.proofs.Common.{◌≡◌, ℕ, Bool, true, false, cond, List, [],
 use Rattle.std.specs.Prelude.{option_map, IfSome}
 use Rattle.std.proofs.lemmas.List.Elements.{All-nil}
 use Rattle.tsn_types.specs.declared.keys.Key.{Key}
-use Rattle.tsn_bridge.specs.declared.command.Ask.{Ask}
-use Rattle.tsn_bridge.specs.declared.command.Command.{Command}
-use Rattle.tsn_bridge.specs.declared.command.Command.TheVariants as commands
-use Rattle.tsn_bridge.specs.declared.reply.Reply.{Reply}
+use Rattle.tsn_commands.specs.declared.command.Ask.{Ask}
+use Rattle.tsn_commands.specs.declared.command.Command.{Command}
+use Rattle.tsn_commands.specs.declared.command.Command.TheVariants as commands
+use Rattle.tsn_commands.specs.declared.reply.Reply.{Reply}
 use Rattle.tsn_commit.specs.Lines.{IsLine}
 use Rattle.tsn_bridge.specs.Rule.{may_change}
 use Rattle.tsn_replay.specs.Recording.{instant_told, kept, recorded, with_reply}
 use Rattle.tsn_spelling.specs.Line.{line_text}
-use Rattle.tsn_journal.specs.declared.entries.Act.{Act as Asked}
-use Rattle.tsn_bridge.specs.Families.{act_command}
+use Rattle.tsn_entries.specs.declared.entries.Act.{Act as Asked}
+use Rattle.tsn_commands.specs.Commands.{act_command}
 use Rattle.tsn_clerk.specs.declared.clerk.Heard.TheVariants as heard
 use Rattle.tsn_clerk.specs.declared.clerk.Manner.{Manner}
 use Rattle.tsn_clerk.specs.declared.clerk.Manner.TheVariants.{Act, Hello, Itself, Passing}

@@ -4,7 +4,7 @@ use Rattle.std.specs.Prelude.{take, drop, Result, Ok, Err, OnOk, OnErr}
 use Rattle.std.specs.Io.KnownBytes.{Appends}
 use Rattle.std.proofs.lemmas.List.{append-nil, take-append-drop}
 use Rattle.tsn_bytes.specs.Bytes.{IsCut}
-use Rattle.tsn_bridge.specs.declared.reply.Reply.{Reply}
+use Rattle.tsn_commands.specs.declared.reply.Reply.{Reply}
 use Rattle.tsn_lasting.specs.Standing.{Replies}
 use Rattle.tsn_lasting.proofs.Answering.{begins_behind, begins_within, took_behind}
 use Rattle.tsn_replies.specs.Replies.{reply_text}

@@ -1,7 +1,7 @@
 -- A connection whose replies wait until what they tell of is kept, and what each of its calls does.
 use Rattle.std.specs.Prelude.{◌≡◌, ◌⊎◌, ℕ, List, [], ◌∷◌, ◌++◌, Option, Some, None}
 use Rattle.std.specs.Io.KnownBytes.{Appends}
-use Rattle.tsn_bridge.specs.declared.reply.Reply.{Reply}
+use Rattle.tsn_commands.specs.declared.reply.Reply.{Reply}
 use Rattle.tsn_history.specs.Texts as texts
 use Rattle.tsn_lasting.specs.Standing.{BeginsWith, Replies}
 use Rattle.tsn_replies.specs.Replies.{reply_text}

@@ -1,8 +1,8 @@
 //! Who attends the turns of a desk whose work lasts: it records each command in its turn, if that lasts and was
 //! accepted, and no hello that goes on as a session.
 ghost use Rattle.std.specs.Prelude.{◌≡◌, ◌⊎◌, IfSome, true};
-ghost use Rattle.tsn_bridge.specs.declared.command.Ask.{Ask as AnyAsk};
-ghost use Rattle.tsn_bridge.specs.Families.{act_command};
+ghost use Rattle.tsn_commands.specs.declared.command.Ask.{Ask as AnyAsk};
+ghost use Rattle.tsn_commands.specs.Commands.{act_command};
 ghost use Rattle.tsn_bridge.specs.Rule.{may_change};
 ghost use Rattle.tsn_replay.specs.Recording.{instant_told};
 ghost use Rattle.tsn_spelling.specs.Line.{line_text};

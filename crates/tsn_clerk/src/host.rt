@@ -1,4 +1,5 @@
 //! Who serves the connections of a desk whose work lasts.
+ghost use Rattle.std.specs.Prelude.{⊤};
 ghost use Rattle.tsn_desk.specs.Desks.{IsSeatOf};
 ghost use Rattle.tsn_port.specs.Workers.{GoesOn};
 
@@ -16,17 +17,8 @@ use tsn_history::Naming;
 use tsn_keeping::Clock;
 use tsn_lasting::Backlog;
 use tsn_port::worker::{PortWorker, RoundFault};
-use tsn_serve::{Connection, Free, Host, LineBuffer, start_with};
+use tsn_serve::{Closing, Connection, Free, Host, LineBuffer, Stop, start_with};
 use tsn_types::numbers::PortId;
-
-/// A service that may be stopped.
-pub trait Stop {
-    /// No further connection is taken, and those that are open are shut down.
-    fn stop(&self);
-
-    /// This connection is no longer open.
-    fn ended(&self, connection: u32);
-}
 
 /// Who serves each connection by a talk over one text of records, and ends the service where the journal fails.
 #[derive(Drop)]
@@ -104,5 +96,15 @@ impl<'a, W: Wait, C: Clock, D: Device, R: Naming, K: Ahead, S: Stop> Host
         let seat = self.talk(alloc, desk, seat, number, &mut reader, writer);
         self.service.ended(number);
         seat
+    }
+}
+
+impl<'a, W: Wait, C: Clock, D: Device, R: Naming, K: Ahead, S: Stop> Closing
+    for LastingHost<'a, W, C, D, R, K, S> {
+    ghost fails = { ⊤ };
+
+    /// All that is recorded is kept.
+    fn close<Q: Wait>(&self, rt: &Q) -> bool {
+        self.commit.settle(rt, &self.commit.recorded(rt)).is_ok()
     }
 }

@@ -9,6 +9,6 @@ mod talk;
 mod windows;
 
 pub use clerk::{Clerk, Heard, Manner};
-pub use host::{LastingHost, Stop};
+pub use host::LastingHost;
 pub use talk::{Talk, TalkFault};
 pub use windows::talk_on;

@@ -1,3 +1,4 @@
+pub mod Accepted
 pub mod Among
 pub mod Batches
 pub mod Beside

@@ -66,3 +66,7 @@ opening_causes l rs = limits_cause l rs ∷ repeated_key [] rs ∷ dangling_caus
 -- why the list is refused, if it is
 abbrev pub opening_refusal : Limits → List (Key × Record) → Option Refusal
 opening_refusal l rs = first_cause (opening_causes l rs)
+
+-- 2 ports, tables of 16 instances, lists of up to 16 entries
+abbrev pub standard_limits : Limits
+standard_limits = record { ports = 2; filters = 16; gates = 16; meters = 16; list = 16 }

@@ -338,18 +338,6 @@ impl Filters {
         }
     }
 
-    /// The least filter with these stream handle and priority specifications.
-    pub(crate) fn first_with(
-        &self,
-        handle: Option<Handle>,
-        priority: Option<Priority>,
-    ) -> Option<u64>
-        ensures small { IfSome result (λ n. n < 65536) }
-        ensures least { result ≡ first_id (specifies handle priority) (map.entries self.now.map) }
-    {
-        least_about(&self.by_match, specification_of(handle, priority))
-    }
-
     /// The least filter with this stream handle specification that has this priority specification or the wildcard.
     pub(crate) fn first_with_either(
         &self,

@@ -38,6 +38,7 @@ pub mod laws;
 mod opening;
 pub mod records;
 mod rows;
+pub mod setup;
 
 /// A well kept configuration with its limits. `map` is the map from keys to records, and `spare` the number of
 /// changes that it certainly has room for.
@@ -95,16 +96,6 @@ impl Config {
         ensures kept { IsWellKept self.now.limits self.now.map }
     {
         self.rows.filters()
-    }
-
-    /// The least filter whose stream handle and priority specifications are these two, none for a wildcard. It is found
-    /// by one binary search, and takes no memory.
-    pub fn first_with(&self, handle: Option<Handle>, priority: Option<Priority>) -> Option<FilterId>
-        ensures { (fs : FinMap nat_cmp AnyFilter) → AreFilters fs self.now.map
-            → result ≡ first_id (specifies handle priority) (map.entries fs) }
-    {
-        let number = self.rows.first_with(handle, priority)?;
-        Some(FilterId::new(number).unwrap())
     }
 
     /// The least filter whose stream handle specification is this one, none for the wildcard, and whose priority

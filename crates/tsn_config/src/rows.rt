@@ -169,19 +169,6 @@ impl Rows {
         self.dangling_filter(filter)
     }
 
-    /// The number of the least filter with these stream handle and priority specifications.
-    pub(crate) fn first_with(
-        &self,
-        handle: Option<Handle>,
-        priority: Option<Priority>,
-    ) -> Option<u64>
-        ensures small { IfSome result (λ n. n < 65536) }
-        ensures least { (fs : FinMap nat_cmp AnyFilter) → AreFilters fs self.now.map
-            → result ≡ first_id (specifies handle priority) (map.entries fs) }
-    {
-        self.filters.first_with(handle, priority)
-    }
-
     /// The number of the least filter with this stream handle specification that has this priority specification or the
     /// wildcard.
     pub(crate) fn first_with_either(

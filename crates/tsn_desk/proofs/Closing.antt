@@ -7,16 +7,16 @@ use lib.ListN.{get_elem?}
 use mathlib.Core.Option as maybe
 use Rattle.atomic_table.specs.Table.{State, Final, Seen}
 use Rattle.atomic_table.specs.declared.shared.Seat.{Seat}
-use Rattle.tsn_desk.specs.declared.history.Entry.{Entry}
+use Rattle.tsn_machine.specs.declared.history.Entry.{Entry}
 use Rattle.tsn_desk.specs.declared.history.Calls.{Calls}
 use Rattle.tsn_desk.specs.declared.board.View.{View}
 use Rattle.tsn_desk.specs.declared.board.Stage.{Stage}
 use Rattle.tsn_desk.specs.declared.board.Stage.TheVariants.{Idle}
-use Rattle.tsn_desk.specs.History.{Begins, calls_by}
+use Rattle.tsn_machine.specs.History.{Begins, calls_by}
 use Rattle.tsn_desk.specs.Rule.{total, Holds, times, AllMade, numbers, Kept}
 use Rattle.tsn_desk.specs.Steps.{number_of, made_of}
 use Rattle.tsn_desk.specs.Seats.{seen, number, made, Closes}
-use Rattle.tsn_desk.proofs.Begin.{begins_trans}
+use Rattle.tsn_machine.proofs.Begin.{begins_trans}
 use Rattle.tsn_desk.proofs.Totals.{total_at, total_two, total_below, one_there}
 use Rattle.tsn_desk.proofs.Parts.{times-append}
 

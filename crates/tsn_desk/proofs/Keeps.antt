@@ -11,15 +11,15 @@ use lib.ListN.{get_elem?}
 use lib.Seq.{set-get_or}
 use Rattle.atomic_table.specs.Table.{State, Me, step, keeps, takes, gives, carried_after, Allows, put_back}
 use Rattle.atomic_table.proofs.Lists.{set_here, set_else, set_again}
-use Rattle.tsn_desk.specs.declared.history.Entry.{Entry}
+use Rattle.tsn_machine.specs.declared.history.Entry.{Entry}
 use Rattle.tsn_desk.specs.declared.history.Calls.{Calls}
 use Rattle.tsn_desk.specs.declared.board.View.{View}
 use Rattle.tsn_desk.specs.declared.board.Stage.{Stage}
 use Rattle.tsn_desk.specs.declared.board.Stage.TheVariants.{Idle, Waiting, Serving}
-use Rattle.tsn_desk.specs.History.{Begins, Runs, IsLegal, calls_by, call}
+use Rattle.tsn_machine.specs.History.{Begins, Runs, IsLegal, calls_by, call}
 use Rattle.tsn_desk.specs.Rule.{holding, held_at, total, Holds, times, AllMade, numbers, late, InStage, Knows, Slot, Kept}
 use Rattle.tsn_desk.specs.Steps.{number_of, add, finished, saw_tickets, drew, looked, saw_front, ended}
-use Rattle.tsn_desk.proofs.Begin.{begins_self, begins_more, Runs-snoc, calls_by-own, calls_by-other}
+use Rattle.tsn_machine.proofs.Begin.{begins_self, begins_more, Runs-snoc, calls_by-own, calls_by-other}
 use Rattle.tsn_desk.proofs.Totals.{total_set, total_at, total_two, total_below, each_set, at_inside, one_there}
 
 pub late_up : (a b l m : ℕ) → a ≤ b → l ≤ m → (if nat_lt (2 ^ 63) a then l else 0) ≤ (if nat_lt (2 ^ 63) b then m else 0)

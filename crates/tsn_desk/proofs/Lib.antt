@@ -1,4 +1,3 @@
-pub mod Begin
 mod Closing
 mod Everywhere
 mod Keeps

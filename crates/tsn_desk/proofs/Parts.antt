@@ -8,14 +8,14 @@ use native.Mathlib.Decide.{ℕ_discrete}
 use lib.ListN.{get_elem?}
 use Rattle.atomic_table.specs.Table.{State, Splits, Joins, opening}
 use Rattle.atomic_table.proofs.Lists.{set_else, at_snoc, at_longer}
-use Rattle.tsn_desk.specs.declared.history.Entry.{Entry}
+use Rattle.tsn_machine.specs.declared.history.Entry.{Entry}
 use Rattle.tsn_desk.specs.declared.history.Calls.{Calls}
 use Rattle.tsn_desk.specs.declared.board.View.{View}
 use Rattle.tsn_desk.specs.declared.board.Stage.{Stage}
 use Rattle.tsn_desk.specs.declared.board.Stage.TheVariants.{Idle}
 use Rattle.tsn_desk.specs.Rule.{holding, held_at, total, Holds, numbered, times, AllMade, opening_view, numbers, late, Knows, Kept}
 use Rattle.tsn_desk.specs.Steps.{first_calls, rest_calls, joined, spent}
-use Rattle.tsn_desk.proofs.Begin.{begins_self}
+use Rattle.tsn_machine.proofs.Begin.{begins_self}
 use Rattle.tsn_desk.proofs.Totals.{total_set, total_snoc, each_set}
 use Rattle.tsn_desk.proofs.Keeps.{apart_set, slot_stays}
 

@@ -1,10 +1,10 @@
 -- What the calls of a desk promise, of the desk and of its seats.
 use Rattle.std.specs.Prelude.{◌≡◌, ◌≢◌, ℕ, slice_get, List, [], ◌∷◌, ◌++◌, length, Some}
 use Rattle.atomic_table.specs.Seated.{TableId}
-use Rattle.tsn_desk.specs.declared.history.Entry.{Entry}
+use Rattle.tsn_machine.specs.declared.history.Entry.{Entry}
 use Rattle.tsn_desk.specs.declared.desk.Seat.{Seat}
 use Rattle.tsn_desk.specs.declared.desk.Desk.{Desk}
-use Rattle.tsn_desk.specs.History.{Begins, Runs, IsLegal, calls_by, call}
+use Rattle.tsn_machine.specs.History.{Begins, Runs, IsLegal, calls_by, call}
 use Rattle.tsn_desk.specs.Seats as inner
 
 -- the beginning of the history that the seat has seen

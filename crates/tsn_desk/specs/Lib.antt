@@ -1,5 +1,4 @@
 pub mod Desks
-pub mod History
 pub mod Rule
 pub mod Seats
 pub mod Steps

@@ -6,12 +6,12 @@ use mathlib.Core.Option.{some, none}
 use mathlib.Core.Option as maybe
 use lib.ListN.{get_elem?}
 use Rattle.atomic_table.specs.Table.{State}
-use Rattle.tsn_desk.specs.declared.history.Entry.{Entry}
+use Rattle.tsn_machine.specs.declared.history.Entry.{Entry}
 use Rattle.tsn_desk.specs.declared.history.Calls.{Calls}
 use Rattle.tsn_desk.specs.declared.board.View.{View}
 use Rattle.tsn_desk.specs.declared.board.Stage.{Stage}
 use Rattle.tsn_desk.specs.declared.board.Stage.TheVariants.{Idle, Waiting, Serving}
-use Rattle.tsn_desk.specs.History.{Begins, Runs, IsLegal, calls_by}
+use Rattle.tsn_machine.specs.History.{Begins, Runs, IsLegal, calls_by}
 
 -- the number f of each element, added up
 abbrev pub total : {V : Type 0} → (V → ℕ) → List V → ℕ

@@ -2,11 +2,11 @@
 use Rattle.std.specs.Prelude.{◌≡◌, ◌≢◌, ℕ, slice_get, List, [], ◌++◌, Option, Some}
 use Rattle.atomic_table.specs.declared.shared.Seat.{Seat}
 use Rattle.atomic_table.specs.declared.owned.Table.{Table}
-use Rattle.tsn_desk.specs.declared.history.Entry.{Entry}
+use Rattle.tsn_machine.specs.declared.history.Entry.{Entry}
 use Rattle.tsn_desk.specs.declared.board.View.{View}
 use Rattle.tsn_desk.specs.declared.board.Opening.{Opening}
 use Rattle.tsn_desk.specs.declared.board.Stage.TheVariants.{Idle}
-use Rattle.tsn_desk.specs.History.{Begins, Runs, IsLegal, calls_by}
+use Rattle.tsn_machine.specs.History.{Begins, Runs, IsLegal, calls_by}
 use Rattle.tsn_desk.specs.Steps.{number_of, made_of}
 
 module _ {M Q A : Type 0} where

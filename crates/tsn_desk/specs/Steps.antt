@@ -1,11 +1,11 @@
 -- What each atomic step tells: of the seat before it, the number found, and the seat after it.
 use Rattle.std.specs.Prelude.{◌≡◌, ◌≢◌, ℕ, ◌+◌, ◌<◌, ◌≤◌, List, [], ◌∷◌, ◌++◌, length, max, Option, Some, None}
 use Rattle.atomic_table.specs.Table.{Me, Step, rest}
-use Rattle.tsn_desk.specs.declared.history.Entry.{Entry}
+use Rattle.tsn_machine.specs.declared.history.Entry.{Entry}
 use Rattle.tsn_desk.specs.declared.history.Calls.{Calls}
 use Rattle.tsn_desk.specs.declared.board.View.{View}
 use Rattle.tsn_desk.specs.declared.board.Stage.TheVariants.{Idle, Waiting, Serving}
-use Rattle.tsn_desk.specs.History.{Begins, Runs, IsLegal, call}
+use Rattle.tsn_machine.specs.History.{Begins, Runs, IsLegal, call}
 use Rattle.tsn_desk.specs.Rule.{AllMade}
 
 module _ {Q A : Type 0} where

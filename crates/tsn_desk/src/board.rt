@@ -1,10 +1,11 @@
 //! The table behind a desk: its two words, its one slot, what each seat knows of them, and the rule that ties them.
-use crate::history::{Calls, Entry};
+use crate::history::Calls;
 use crate::machine::Machine;
 use atomic_table::TableRule;
 use std::collections::LinkedList;
 use std::marker::PhantomData;
 use std::snapshot::Snapshot;
+use tsn_machine::history::Entry;
 
 /// The word that counts the turns that have ended. It is the ticket that is served.
 pub(crate) const SERVING: usize = 0;

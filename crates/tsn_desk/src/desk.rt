@@ -1,7 +1,7 @@
 //! A desk and its seats: what callers do with them.
 ghost use Rattle.std.specs.Prelude.{◌≡◌, ◌+◌, ◌≤◌, ◌<◌, ◌^◌, [], length, ℕ, Some, IfOk, IfErr, OnErr, IsErr, IsOk, ◌⊎◌, All, vec_len, slice_get};
 ghost use Rattle.tsn_desk.specs.declared.board.Stage.TheVariants.{Idle};
-ghost use Rattle.tsn_desk.specs.History.{Begins, calls_by};
+ghost use Rattle.tsn_machine.specs.History.{Begins, calls_by};
 
 use crate::board::{Opening, SERVING, TICKETS, Turns, View};
 use crate::machine::{Machine, Nobody, Witness};

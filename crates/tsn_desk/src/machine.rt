@@ -1,19 +1,5 @@
-//! What a desk serves.
-
-/// A machine that answers one request at a time.
-pub trait Machine {
-    type Request;
-
-    type Reply;
-
-    /// What a step may be: of the machine before it, the request, the reply and the machine after it.
-    ghost steps: { Self → Self.Request → Self.Reply → Self → Type 0 };
-
-    /// Answers a request, and goes on to its next state. It takes no lock: a desk steps its machine in one thread at a
-    /// time.
-    fn step(&mut self, request: Self::Request) -> Self::Reply
-        ensures { steps self.old request result self.new };
-}
+//! Who attends the turns at a machine that is shared.
+pub use tsn_machine::machine::Machine;
 
 /// Who attends a turn at a desk: hears what is asked ahead of it, and the reply in it, with nobody else at the machine.
 pub trait Witness<M: Machine> {

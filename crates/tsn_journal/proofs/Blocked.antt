@@ -7,13 +7,13 @@ use Rattle.tsn_types.specs.declared.keys.Key.{Key}
 use Rattle.tsn_types.specs.declared.records.Refs.{Refs}
 use Rattle.tsn_types.specs.Keys.{keys_of_refs, refs_of}
 use Rattle.tsn_edit.specs.Parts.{Change, Part}
-use Rattle.tsn_journal.specs.declared.entries.Entry.{Entry}
-use Rattle.tsn_journal.specs.declared.entries.MarkedEntry.{MarkedEntry}
+use Rattle.tsn_entries.specs.declared.entries.Entry.{Entry}
+use Rattle.tsn_entries.specs.declared.entries.MarkedEntry.{MarkedEntry}
 use Rattle.tsn_journal.specs.declared.index.Index.{Index}
-use Rattle.tsn_journal.specs.Entries.{applies}
-use Rattle.tsn_journal.specs.Finding.{last_where}
+use Rattle.tsn_entries.specs.Entries.{applies}
+use Rattle.tsn_entries.specs.Finding.{last_where}
 use Rattle.tsn_journal.specs.Index.{above, is_on, refers}
-use Rattle.tsn_journal.specs.Marks.{entries_of, is_in_conflict, later_of}
+use Rattle.tsn_entries.specs.Marks.{entries_of, is_in_conflict, later_of}
 use Rattle.tsn_journal.specs.Touched.{CanTell, mentions, newest, referred, some_number, told_on, touched, touches}
 use Rattle.tsn_journal.proofs.Sought.{in_conflict, never, on_any, sought_more, take_next}
 use Rattle.tsn_journal.proofs.Under.{last_either}

@@ -19,13 +19,13 @@ use Rattle.tsn_types.specs.Keys.{has, meets, meter_ref, refs_of, same_key}
 use Rattle.tsn_edit.specs.Changes.{conflicts, keys_of, refs_before}
 use Rattle.tsn_edit.specs.Parts.{Change, Part, parts}
 use Rattle.tsn_edit.proofs.KeyFacts.{by_option, has-append, keys_of-append}
-use Rattle.tsn_journal.specs.declared.entries.What.{What}
-use Rattle.tsn_journal.specs.declared.entries.MarkedEntry.{MarkedEntry}
+use Rattle.tsn_entries.specs.declared.entries.What.{What}
+use Rattle.tsn_entries.specs.declared.entries.MarkedEntry.{MarkedEntry}
 use Rattle.tsn_journal.specs.Crossed.{IsFreeAbove, NoneCrossed, NoneReferred, crosses, is_on_referred, is_referred}
-use Rattle.tsn_journal.specs.Entries.{IsNumbered, adds, applies}
-use Rattle.tsn_journal.specs.Finding.{last_where}
-use Rattle.tsn_journal.specs.Index.{NoneFrom, belongs_to_others, standing_change}
-use Rattle.tsn_journal.specs.Marks.{conflict_of_others, entries_of, is_in_conflict, is_others, is_own, mark_off, stands}
+use Rattle.tsn_entries.specs.Entries.{IsNumbered, adds, applies}
+use Rattle.tsn_entries.specs.Finding.{last_where}
+use Rattle.tsn_entries.specs.Marks.{conflict_of_others, entries_of, is_in_conflict, is_others, is_own, mark_off, standing_change, stands}
+use Rattle.tsn_journal.specs.Index.{NoneFrom, belongs_to_others}
 use Rattle.tsn_journal.proofs.Links.{end_at, front_at, none_some, where_at}
 use Rattle.tsn_journal.proofs.Under.{no_lower}
 use Rattle.tsn_journal.proofs.Walking.{none_from}

@@ -6,12 +6,12 @@ use Rattle.std.specs.Option.{option_and_then}
 use Rattle.std.proofs.lemmas.Bool.Decides.{nat_tests}
 use Rattle.std.proofs.lemmas.List.{drop-map}
 use Rattle.tsn_edit.specs.Parts.{Change}
-use Rattle.tsn_journal.specs.declared.entries.What.{What}
-use Rattle.tsn_journal.specs.declared.entries.Entry.{Entry}
-use Rattle.tsn_journal.specs.declared.entries.MarkedEntry.{MarkedEntry}
-use Rattle.tsn_journal.specs.Entries.{Applied, IsNumbered, applied, collect, standing}
-use Rattle.tsn_journal.specs.Finding.{last_where, later_than, parts_of_all, since}
-use Rattle.tsn_journal.specs.Marks.{AreMarked, added_in, entries_of, stands}
+use Rattle.tsn_entries.specs.declared.entries.What.{What}
+use Rattle.tsn_entries.specs.declared.entries.Entry.{Entry}
+use Rattle.tsn_entries.specs.declared.entries.MarkedEntry.{MarkedEntry}
+use Rattle.tsn_entries.specs.Entries.{Applied, IsNumbered, applied, collect, standing}
+use Rattle.tsn_entries.specs.Finding.{last_where, later_than, parts_of_all, since}
+use Rattle.tsn_entries.specs.Marks.{AreMarked, added_in, entries_of, stands}
 use Rattle.tsn_journal.proofs.Marking.{no_number}
 
 -- what is picked of a marked entry has the entry's number

@@ -4,11 +4,11 @@ use Rattle.std.specs.Prelude.{◌==◌, is_some, option_map}
 use Rattle.std.specs.List.{filter_map}
 use Rattle.std.specs.Option.{option_and_then}
 use Rattle.tsn_edit.specs.Changes.{conflicts}
-use Rattle.tsn_journal.specs.declared.entries.Entry.{Entry}
-use Rattle.tsn_journal.specs.declared.entries.MarkedEntry.{MarkedEntry}
-use Rattle.tsn_journal.specs.Entries.{Applied, IsNumbered, applied, applies, collect, standing}
-use Rattle.tsn_journal.specs.Finding.{entry, find_conflict, find_conflict_of_others, find_redo_conflict, last_where, later_than, standing_entry, undone_entry}
-use Rattle.tsn_journal.specs.Marks.{IsJournal, conflict_after, conflict_of_others, entries_of, is_in_conflict, is_others, stands}
+use Rattle.tsn_entries.specs.declared.entries.Entry.{Entry}
+use Rattle.tsn_entries.specs.declared.entries.MarkedEntry.{MarkedEntry}
+use Rattle.tsn_entries.specs.Entries.{Applied, IsNumbered, applied, applies, collect, standing}
+use Rattle.tsn_entries.specs.Finding.{entry, find_conflict, find_conflict_of_others, find_redo_conflict, last_where, later_than, standing_entry, undone_entry}
+use Rattle.tsn_entries.specs.Marks.{IsJournal, conflict_after, conflict_of_others, entries_of, is_in_conflict, is_others, stands}
 use Rattle.tsn_journal.proofs.Collecting.{IsOwn, applied-own, collect-marked, passes, standing-marked, stands-own}
 use Rattle.tsn_journal.proofs.Finders.{any_agrees, conflict_agrees, later_picked, other_agrees}
 use Rattle.tsn_journal.proofs.Standing.{IsEntry, standing_is_entry, undone_is_entry}

@@ -3,7 +3,7 @@ use denote.Param.Send.{IsSend, sendable}
 use Rattle.std.proofs.Crossing.{crosses}
 use Rattle.tsn_table.proofs.Crossing.{table_send}
 use Rattle.tsn_types.specs.contracts.records.Record as Record
-use Rattle.tsn_journal.specs.contracts.entries.MarkedEntry as MarkedEntry
+use Rattle.tsn_entries.specs.contracts.entries.MarkedEntry as MarkedEntry
 use Rattle.tsn_journal.specs.contracts.index.Index as Index
 use Rattle.tsn_journal.specs.contracts.journal.Journal as Journal
 

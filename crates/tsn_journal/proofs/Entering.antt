@@ -7,7 +7,7 @@ use Rattle.std.proofs.lemmas.Bool.{eqb-true}
 use Rattle.tsn_types.specs.declared.records.Refs.{Refs}
 use Rattle.tsn_types.specs.Keys.{keys_of_refs, refs_of}
 use Rattle.tsn_edit.specs.Parts.{Change, Part, parts}
-use Rattle.tsn_journal.specs.declared.entries.MarkedEntry.{MarkedEntry}
+use Rattle.tsn_entries.specs.declared.entries.MarkedEntry.{MarkedEntry}
 use Rattle.tsn_journal.specs.declared.groups.Group.{Group}
 use Rattle.tsn_journal.specs.declared.groups.Group.TheVariants.{On, RefersTo, Of, EndsRedo}
 use Rattle.tsn_journal.specs.declared.index.Index.{Index}

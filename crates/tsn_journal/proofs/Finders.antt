@@ -8,12 +8,12 @@ use Rattle.std.proofs.lemmas.Bool.{or_left, or_right, or_from, eqb-true}
 use Rattle.tsn_edit.specs.Parts.{Change}
 use Rattle.tsn_edit.specs.Changes.{conflicts}
 use Rattle.tsn_edit.proofs.KeyFacts.{by_bool}
-use Rattle.tsn_journal.specs.declared.entries.What.{What}
-use Rattle.tsn_journal.specs.declared.entries.Entry.{Entry}
-use Rattle.tsn_journal.specs.declared.entries.MarkedEntry.{MarkedEntry}
-use Rattle.tsn_journal.specs.Entries.{Applied, adds, applied, applies, is_made, standing, undoes}
-use Rattle.tsn_journal.specs.Finding.{find_conflict_of_others, find_own_in_conflict, last_where, later_than, own_standing, parts_of_all, redo_of, standing_entry}
-use Rattle.tsn_journal.specs.Marks.{AreMarked, IsJournal, added_in, conflict_of_others, ends_redo, entries_of, is_in_conflict, is_others, is_own, newest_blocked, stands}
+use Rattle.tsn_entries.specs.declared.entries.What.{What}
+use Rattle.tsn_entries.specs.declared.entries.Entry.{Entry}
+use Rattle.tsn_entries.specs.declared.entries.MarkedEntry.{MarkedEntry}
+use Rattle.tsn_entries.specs.Entries.{Applied, adds, applied, applies, is_made, standing, undoes}
+use Rattle.tsn_entries.specs.Finding.{find_conflict_of_others, find_own_in_conflict, last_where, later_than, own_standing, parts_of_all, redo_of, standing_entry}
+use Rattle.tsn_entries.specs.Marks.{AreMarked, IsJournal, added_in, conflict_of_others, ends_redo, entries_of, is_in_conflict, is_others, is_own, newest_blocked, stands}
 use Rattle.tsn_journal.proofs.Collecting.{IsOwn, filter_marked, filter_parts, find_marked, last_marked, later_marked, passes, standing-marked, stands-own}
 
 abbrev num : Option Applied → Option ℕ

@@ -8,14 +8,14 @@ use Rattle.tsn_types.specs.Keys.{has, refs_of, same_key}
 use Rattle.tsn_edit.specs.Changes.{keys_of, refs_after}
 use Rattle.tsn_edit.specs.Parts.{Change, Part, parts}
 use Rattle.tsn_edit.proofs.KeyFacts.{has-append, one_key}
-use Rattle.tsn_journal.specs.declared.entries.What.{What}
-use Rattle.tsn_journal.specs.declared.entries.MarkedEntry.{MarkedEntry}
+use Rattle.tsn_entries.specs.declared.entries.What.{What}
+use Rattle.tsn_entries.specs.declared.entries.MarkedEntry.{MarkedEntry}
 use Rattle.tsn_journal.specs.declared.groups.Group.{Group}
 use Rattle.tsn_journal.specs.declared.groups.Group.TheVariants.{On, RefersTo, Of, EndsRedo}
-use Rattle.tsn_journal.specs.Entries.{adds, is_made}
-use Rattle.tsn_journal.specs.Index.{belongs, belongs_to_others, group_if, groups_of_parts, is_among, is_by, standing_change}
+use Rattle.tsn_entries.specs.Entries.{adds, is_made}
+use Rattle.tsn_entries.specs.Marks.{mark_off, standing_change}
+use Rattle.tsn_journal.specs.Index.{belongs, belongs_to_others, group_if, groups_of_parts, is_among, is_by}
 use Rattle.tsn_journal.specs.Latest.{same_group}
-use Rattle.tsn_journal.specs.Marks.{mark_off}
 
 pub one_group : (a b : Group) → same_group a b ≡ true → a ≡ b
 one_group a b h = grind arith

@@ -4,14 +4,14 @@ use Rattle.std.specs.List.{slice_get}
 use Rattle.std.proofs.lemmas.List.{length-map, length-append}
 use Rattle.std.proofs.lemmas.Option.{slice_get-map, slice_get_past, slice_get_within, same_Some}
 use Rattle.tsn_edit.proofs.KeyFacts.{by_bool, by_option}
-use Rattle.tsn_journal.specs.declared.entries.What.{What}
-use Rattle.tsn_journal.specs.declared.entries.MarkedEntry.{MarkedEntry}
+use Rattle.tsn_entries.specs.declared.entries.What.{What}
+use Rattle.tsn_entries.specs.declared.entries.MarkedEntry.{MarkedEntry}
 use Rattle.tsn_journal.specs.declared.groups.Group.{Group}
 use Rattle.tsn_journal.specs.declared.index.Index.{Index}
 use Rattle.tsn_journal.specs.declared.index.Node.{Node}
 use Rattle.tsn_journal.specs.Index.{Adds, AreNodes, IsIndexed, IsIndexedBut, IsIndexedButNewest, IsLast, IsNode, NoneBetween, TakesRoom, belongs, belongs_to_others, group_if, is_among, is_by, is_of, number_at, number_of, other_from, other_of, node_at, set_at}
 use Rattle.tsn_journal.specs.Latest.{TakesRows, latest_of, same_group}
-use Rattle.tsn_journal.specs.Marks.{mark_off}
+use Rattle.tsn_entries.specs.Marks.{mark_off}
 use Rattle.tsn_journal.proofs.Grouping.{belongs-mark_off, by-mark_off, group_itself, one_group, others-mark_off}
 use Rattle.tsn_journal.proofs.Links.{end_at, front_at, hop, none_some, not_of_others, node_end, node_front, where_at}
 

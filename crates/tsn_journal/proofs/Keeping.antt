@@ -1,8 +1,8 @@
 -- A journal with its index: with more room, and with an entry more.
 use Rattle.std.proofs.Common.{◌≡◌, ℕ, ◌+◌, ◌-◌, ◌≤◌, List, [], ◌∷◌, ◌++◌, refl, sym, ◌∙◌, ap, subst, arith, length, map, Some, false}
 use Rattle.std.proofs.lemmas.List.{length-append, length-map, map-append}
-use Rattle.tsn_journal.specs.declared.entries.What.{What}
-use Rattle.tsn_journal.specs.declared.entries.MarkedEntry.{MarkedEntry}
+use Rattle.tsn_entries.specs.declared.entries.What.{What}
+use Rattle.tsn_entries.specs.declared.entries.MarkedEntry.{MarkedEntry}
 use Rattle.tsn_journal.specs.declared.groups.Group.{Group}
 use Rattle.tsn_journal.specs.declared.index.Index.{Index}
 use Rattle.tsn_journal.specs.Index.{AreNodes, HasRoom, IsIndexed, IsIndexedButNewest, NewestAdds, TakesNoRoom, TakesRoom, nodes_for}
@@ -14,8 +14,8 @@ use Rattle.tsn_journal.specs.Touched.{NewestTold, Tells, TellsSame}
 use Rattle.std.specs.List.{slice_get}
 use Rattle.std.specs.Prelude.{max}
 use Rattle.std.proofs.lemmas.Option.{same_Some}
-use Rattle.tsn_journal.specs.Entries.{IsNumbered, added_parts, adds, settled, settles_to}
-use Rattle.tsn_journal.specs.Marks.{AreOff, IsJournal, Log, entries_of, mark_off}
+use Rattle.tsn_entries.specs.Entries.{IsNumbered, added_parts, adds, settled, settles_to}
+use Rattle.tsn_entries.specs.Marks.{AreOff, IsJournal, Log, entries_of, mark_off}
 use Rattle.tsn_journal.proofs.Bounding.{free_pushed, referred_pushed}
 use Rattle.tsn_journal.proofs.Closing.{off_pushed, settled_push}
 use Rattle.tsn_journal.proofs.Indexing.{indexed_more, indexed_off}

@@ -7,7 +7,6 @@ pub mod Finders
 pub mod Grouping
 pub mod Indexing
 pub mod Keeping
-pub mod LastWhere
 pub mod Links
 pub mod Lowering
 pub mod Marking

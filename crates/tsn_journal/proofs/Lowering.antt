@@ -1,7 +1,7 @@
 -- The newest nodes of groups that are set back to where their last entries are.
 use Rattle.std.proofs.Common.{◌≡◌, ℕ, ◌+◌, List, [], length, arith, subst, sym}
 use Rattle.std.proofs.lemmas.Grind.{common_steps}
-use Rattle.tsn_journal.specs.declared.entries.MarkedEntry.{MarkedEntry}
+use Rattle.tsn_entries.specs.declared.entries.MarkedEntry.{MarkedEntry}
 use Rattle.tsn_journal.specs.declared.groups.Group.{Group}
 use Rattle.tsn_journal.specs.declared.index.Index.{Index}
 use Rattle.tsn_journal.specs.declared.index.Node.{Node}

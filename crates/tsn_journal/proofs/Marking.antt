@@ -6,11 +6,11 @@ use Rattle.std.proofs.lemmas.List.{map-append, length-map, length-append, take-a
 use Rattle.std.proofs.lemmas.List.Folds.{list_any-append}
 use Rattle.std.proofs.lemmas.Bool.{eq-eqb}
 use Rattle.std.proofs.Math.Bool.{or-false}
-use Rattle.tsn_journal.specs.declared.entries.What.{What}
-use Rattle.tsn_journal.specs.declared.entries.Entry.{Entry}
-use Rattle.tsn_journal.specs.declared.entries.MarkedEntry.{MarkedEntry}
-use Rattle.tsn_journal.specs.Entries.{IsNoSettle, IsNumbered, closes, is_closed, names, with_entry}
-use Rattle.tsn_journal.specs.Marks.{AreMarked, IsJournal, entries_of, mark_off}
+use Rattle.tsn_entries.specs.declared.entries.What.{What}
+use Rattle.tsn_entries.specs.declared.entries.Entry.{Entry}
+use Rattle.tsn_entries.specs.declared.entries.MarkedEntry.{MarkedEntry}
+use Rattle.tsn_entries.specs.Entries.{IsNoSettle, IsNumbered, closes, is_closed, names, with_entry}
+use Rattle.tsn_entries.specs.Marks.{AreMarked, IsJournal, entries_of, mark_off}
 
 -- ---- looking a number up
 

@@ -12,15 +12,15 @@ use Rattle.tsn_types.specs.Keys.{has}
 use Rattle.tsn_edit.specs.Changes.{keys_of}
 use Rattle.tsn_edit.specs.Parts.{Part}
 use Rattle.tsn_edit.proofs.KeyFacts.{by_option, has-append, keys_of-append}
-use Rattle.tsn_journal.specs.declared.entries.Entry.{Entry}
-use Rattle.tsn_journal.specs.declared.entries.What.{What}
-use Rattle.tsn_journal.specs.declared.entries.MarkedEntry.{MarkedEntry}
+use Rattle.tsn_entries.specs.declared.entries.Entry.{Entry}
+use Rattle.tsn_entries.specs.declared.entries.What.{What}
+use Rattle.tsn_entries.specs.declared.entries.MarkedEntry.{MarkedEntry}
 use Rattle.tsn_journal.specs.declared.groups.Group.TheVariants.{On}
 use Rattle.tsn_journal.specs.Crossed.{IsFoundOn, IsNeeded, IsRaised, is_on_referred}
-use Rattle.tsn_journal.specs.Entries.{IsNumbered, adds, with_entry}
-use Rattle.tsn_journal.specs.Finding.{last_where}
+use Rattle.tsn_entries.specs.Entries.{IsNumbered, adds, with_entry}
+use Rattle.tsn_entries.specs.Finding.{last_where}
 use Rattle.tsn_journal.specs.Index.{belongs_to_others, is_on}
-use Rattle.tsn_journal.specs.Marks.{entries_of}
+use Rattle.tsn_entries.specs.Marks.{entries_of}
 use Rattle.tsn_journal.proofs.Grouping.{none_true}
 use Rattle.tsn_journal.proofs.Links.{end_at, front_at, none_some, where_at}
 use Rattle.tsn_journal.proofs.Newest.{number_at'}

@@ -12,17 +12,17 @@ use Rattle.tsn_types.specs.Keys.{has, keys_of_refs, refs_of, same_key}
 use Rattle.tsn_edit.specs.Changes.{keys_of, refs_after}
 use Rattle.tsn_edit.specs.Parts.{Change, Part, parts}
 use Rattle.tsn_edit.proofs.KeyFacts.{by_option, has-append, same_itself}
-use Rattle.tsn_journal.specs.declared.entries.MarkedEntry.{MarkedEntry}
-use Rattle.tsn_journal.specs.declared.entries.Entry.{Entry}
-use Rattle.tsn_journal.specs.declared.entries.What.{What}
+use Rattle.tsn_entries.specs.declared.entries.MarkedEntry.{MarkedEntry}
+use Rattle.tsn_entries.specs.declared.entries.Entry.{Entry}
+use Rattle.tsn_entries.specs.declared.entries.What.{What}
 use Rattle.tsn_journal.specs.declared.groups.Group.{Group}
 use Rattle.tsn_journal.specs.declared.groups.Group.TheVariants.{On, RefersTo, Of, EndsRedo}
 use Rattle.tsn_journal.specs.declared.index.Index.{Index}
 use Rattle.tsn_journal.specs.declared.index.Node.{Node}
-use Rattle.tsn_journal.specs.Entries.{IsNumbered, adds, closes, names, settles_to}
-use Rattle.tsn_journal.specs.Index.{Adds, AreNodes, IsIndexed, IsNewest, belongs, groups_of_parts, is_among, is_on, part_groups, node_at, refers, set_at, standing_change}
+use Rattle.tsn_entries.specs.Entries.{IsNumbered, adds, closes, names, settles_to}
+use Rattle.tsn_entries.specs.Marks.{AreOff, entries_of, mark_off, standing_change}
+use Rattle.tsn_journal.specs.Index.{Adds, AreNodes, IsIndexed, IsNewest, belongs, groups_of_parts, is_among, is_on, part_groups, node_at, refers, set_at}
 use Rattle.tsn_journal.specs.Latest.{latest_of}
-use Rattle.tsn_journal.specs.Marks.{AreOff, entries_of, mark_off}
 use Rattle.tsn_journal.specs.Newest.{AreNewest, HasNewest, IsIn, KeepsNewest, MendsNewest, groups_of}
 use Rattle.tsn_journal.proofs.Grouping.{covers, first_true, is_among-append, one_group}
 use Rattle.tsn_journal.proofs.Links.{front_at, none_some, node_end, node_front, node_of, where_at}

@@ -6,12 +6,12 @@ use Rattle.std.proofs.Math.Seq.{drop-nil}
 use Rattle.std.proofs.lemmas.List.{take-append-drop}
 use Rattle.std.proofs.lemmas.List.Elements.{filter-append}
 use Rattle.tsn_types.specs.declared.keys.Key.{Key}
-use Rattle.tsn_journal.specs.Entries.{adds}
-use Rattle.tsn_journal.specs.declared.entries.MarkedEntry.{MarkedEntry}
+use Rattle.tsn_entries.specs.Entries.{adds}
+use Rattle.tsn_entries.specs.declared.entries.MarkedEntry.{MarkedEntry}
 use Rattle.tsn_journal.specs.declared.groups.Group.TheVariants.{On, RefersTo, Of}
 use Rattle.tsn_journal.specs.declared.index.Node.{Node}
 use Rattle.tsn_journal.specs.Index.{NoneBetween, belongs, is_on, number_at, refers}
-use Rattle.tsn_journal.specs.Marks.{AreOff, is_own}
+use Rattle.tsn_entries.specs.Marks.{AreOff, is_own}
 use Rattle.tsn_journal.proofs.Walking.{filter_gap}
 
 pub off_at : (n : ℕ) (ms : List MarkedEntry) → AreOff n ms → (i : ℕ) (m : MarkedEntry) → i < n → slice_get ms i ≡ Some m → m.is_open ≡ false

@@ -5,10 +5,10 @@ use Rattle.std.specs.List.{cons_option}
 use Rattle.std.proofs.lemmas.Bool.{leb-false}
 use Rattle.tsn_edit.specs.Parts.{Change}
 use Rattle.tsn_edit.proofs.KeyFacts.{by_bool}
-use Rattle.tsn_journal.specs.declared.entries.What.{What}
-use Rattle.tsn_journal.specs.declared.entries.What.TheVariants.{Settled}
-use Rattle.tsn_journal.specs.declared.entries.Entry.{Entry}
-use Rattle.tsn_journal.specs.Entries.{Applied, IsNoSettle, IsNumbered, adds, applied, closes, is_closed, is_settled, settled_edits, standing, takes_back}
+use Rattle.tsn_entries.specs.declared.entries.What.{What}
+use Rattle.tsn_entries.specs.declared.entries.What.TheVariants.{Settled}
+use Rattle.tsn_entries.specs.declared.entries.Entry.{Entry}
+use Rattle.tsn_entries.specs.Entries.{Applied, IsNoSettle, IsNumbered, adds, applied, closes, is_closed, is_settled, settled_edits, standing, takes_back}
 use Rattle.tsn_journal.proofs.Numbers.{Rises}
 
 -- ---- an entry that settles none

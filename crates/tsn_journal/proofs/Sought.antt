@@ -13,13 +13,13 @@ use Rattle.tsn_edit.proofs.Conflicting.{meets_none, mixed, same_key_swap}
 use Rattle.tsn_edit.specs.Changes.{conflicts, keys_of, refs_after, refs_before}
 use Rattle.tsn_edit.specs.Parts.{Change, Part, parts}
 use Rattle.tsn_edit.proofs.KeyFacts.{has-append, keys_of-append}
-use Rattle.tsn_journal.specs.declared.entries.What.{What}
-use Rattle.tsn_journal.specs.declared.entries.MarkedEntry.{MarkedEntry}
+use Rattle.tsn_entries.specs.declared.entries.What.{What}
+use Rattle.tsn_entries.specs.declared.entries.MarkedEntry.{MarkedEntry}
 use Rattle.tsn_journal.specs.declared.groups.Group.TheVariants.{On, RefersTo}
-use Rattle.tsn_journal.specs.Entries.{IsNumbered, adds, applies}
-use Rattle.tsn_journal.specs.Finding.{last_where}
-use Rattle.tsn_journal.specs.Index.{above, belongs, is_on, is_on_any, refers, standing_change}
-use Rattle.tsn_journal.specs.Marks.{entries_of, is_in_conflict, later_of, stands}
+use Rattle.tsn_entries.specs.Entries.{IsNumbered, adds, applies}
+use Rattle.tsn_entries.specs.Finding.{last_where}
+use Rattle.tsn_entries.specs.Marks.{entries_of, is_in_conflict, later_of, standing_change, stands}
+use Rattle.tsn_journal.specs.Index.{above, belongs, is_on, is_on_any, refers}
 use Rattle.tsn_journal.proofs.Under.{last_either, no_lower}
 
 abbrev at : Option MarkedEntry → Option ℕ

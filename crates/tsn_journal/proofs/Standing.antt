@@ -5,11 +5,11 @@ use Rattle.std.specs.List.{AllByRecursion, find}
 use Rattle.std.specs.Option.{option_and_then, option_or}
 use Rattle.std.proofs.lemmas.Bool.Decides.{nat_tests}
 use Rattle.tsn_edit.proofs.KeyFacts.{by_option}
-use Rattle.tsn_journal.specs.declared.entries.Entry.{Entry}
-use Rattle.tsn_journal.specs.declared.entries.MarkedEntry.{MarkedEntry}
-use Rattle.tsn_journal.specs.Entries.{Applied, IsNumbered, applied, applies, collect, is_closed, standing, undoes}
-use Rattle.tsn_journal.specs.Finding.{change_at, entry, last_where, may_redo, redo_of, standing_entry, undone_entry}
-use Rattle.tsn_journal.specs.Marks.{AreMarked, entries_of, stands}
+use Rattle.tsn_entries.specs.declared.entries.Entry.{Entry}
+use Rattle.tsn_entries.specs.declared.entries.MarkedEntry.{MarkedEntry}
+use Rattle.tsn_entries.specs.Entries.{Applied, IsNumbered, applied, applies, collect, is_closed, standing, undoes}
+use Rattle.tsn_entries.specs.Finding.{change_at, entry, last_where, may_redo, redo_of, standing_entry, undone_entry}
+use Rattle.tsn_entries.specs.Marks.{AreMarked, entries_of, stands}
 use Rattle.tsn_journal.proofs.Collecting.{applied-own, collect-marked, find_marked, standing-marked, stands-own}
 use Rattle.tsn_journal.proofs.Finders.{IsPicked, redone_at, standing_picked_of, undone_picked_of}
 use Rattle.tsn_journal.proofs.Marking.{find_entry}

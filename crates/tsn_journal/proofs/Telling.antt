@@ -14,14 +14,14 @@ use Rattle.tsn_types.specs.Keys.{has, keys_of_refs, refs_of}
 use Rattle.tsn_edit.specs.Changes.{keys_of, refs_after}
 use Rattle.tsn_edit.specs.Parts.{Change, Part}
 use Rattle.tsn_edit.proofs.KeyFacts.{by_bool, by_option, has-append, keys_of-append}
-use Rattle.tsn_journal.specs.declared.entries.Entry.{Entry}
+use Rattle.tsn_entries.specs.declared.entries.Entry.{Entry}
 use Rattle.tsn_journal.specs.declared.index.Index.{Index}
-use Rattle.tsn_journal.specs.Entries.{IsNumbered, applies}
-use Rattle.tsn_journal.specs.Finding.{entry, last_where}
+use Rattle.tsn_entries.specs.Entries.{IsNumbered, applies}
+use Rattle.tsn_entries.specs.Finding.{entry, last_where}
 use Rattle.tsn_journal.specs.Index.{above, is_on, refers}
 use Rattle.tsn_journal.specs.Touched.{KeepsNodes, Tells, TellsSame, Told, keys_in, mentions, newest, referred, refs_in, some_number, touched, touches}
 use Rattle.tsn_journal.proofs.Indexing.{rows_then}
-use Rattle.tsn_journal.proofs.LastWhere.{last_where-append}
+use Rattle.tsn_entries.proofs.LastWhere.{last_where-append}
 use Rattle.tsn_journal.proofs.Links.{none_some}
 use Rattle.tsn_journal.proofs.Sought.{nothing_after, take_next}
 

@@ -2,10 +2,10 @@
 use Rattle.std.proofs.Common.{◌≡◌, ℕ, ◌+◌, ◌<◌, ◌≤◌, Bool, cond, ◌||◌, List, [], ◌∷◌, refl, ap, Option, Some, None, arith}
 use Rattle.std.specs.Prelude.{option_map}
 use Rattle.std.specs.Option.{option_or}
-use Rattle.tsn_journal.specs.declared.entries.MarkedEntry.{MarkedEntry}
-use Rattle.tsn_journal.specs.Entries.{IsNumbered}
-use Rattle.tsn_journal.specs.Finding.{last_where}
-use Rattle.tsn_journal.specs.Marks.{entries_of, later_of}
+use Rattle.tsn_entries.specs.declared.entries.MarkedEntry.{MarkedEntry}
+use Rattle.tsn_entries.specs.Entries.{IsNumbered}
+use Rattle.tsn_entries.specs.Finding.{last_where}
+use Rattle.tsn_entries.specs.Marks.{entries_of, later_of}
 use Rattle.tsn_journal.proofs.Finders.{last_of_two}
 
 pub no_lower : (t : MarkedEntry → Bool) (n : ℕ) (ms : List MarkedEntry) (m : MarkedEntry) → IsNumbered n (entries_of ms)

@@ -7,15 +7,15 @@ use Rattle.std.proofs.lemmas.List.Elements.{filter-append}
 use Rattle.std.specs.Option.{option_or}
 use Rattle.std.proofs.lemmas.Option.{get_or_from_slice_get, slice_get_within}
 use Rattle.std.proofs.Math.Seq.{drop-cons}
-use Rattle.tsn_journal.specs.declared.entries.MarkedEntry.{MarkedEntry}
+use Rattle.tsn_entries.specs.declared.entries.MarkedEntry.{MarkedEntry}
 use Rattle.tsn_journal.specs.declared.groups.Group.{Group}
 use Rattle.tsn_journal.specs.declared.index.Node.{Node}
-use Rattle.tsn_journal.specs.Finding.{last_where}
-use Rattle.tsn_journal.specs.Entries.{added_parts}
-use Rattle.tsn_journal.specs.Marks.{IsTally, added_in}
+use Rattle.tsn_entries.specs.Finding.{last_where}
+use Rattle.tsn_entries.specs.Entries.{added_parts}
+use Rattle.tsn_entries.specs.Marks.{IsTally, added_in}
 use Rattle.tsn_journal.specs.Index.{AreNodes, IsLast, NoneFrom, belongs, is_of, number_at, number_of, node_at}
 use Rattle.tsn_journal.proofs.Links.{one, the_node}
-use Rattle.tsn_journal.proofs.LastWhere.{found_here, last_where-append}
+use Rattle.tsn_entries.proofs.LastWhere.{found_here, last_where-append}
 
 pub none_from : {A : Type 0} (t : A → Bool) (xs : List A) (n : ℕ) → NoneFrom t xs n → last_where t (drop n xs) ≡ None
 none_from t [] zero h = refl

@@ -3,10 +3,11 @@ use Rattle.std.specs.Prelude.{◌≡◌, ◌⊎◌, ℕ, ◌+◌, ◌-◌, ◌<�
 use Rattle.std.specs.List.{list_any, slice_get}
 use Rattle.tsn_edit.specs.Changes.{conflicts, keys_of}
 use Rattle.tsn_edit.specs.Parts.{Change, parts}
-use Rattle.tsn_journal.specs.declared.entries.Entry.{Entry}
-use Rattle.tsn_journal.specs.declared.entries.MarkedEntry.{MarkedEntry}
-use Rattle.tsn_journal.specs.Entries.{adds}
-use Rattle.tsn_journal.specs.Index.{belongs_to_others, is_on, standing_change}
+use Rattle.tsn_entries.specs.declared.entries.Entry.{Entry}
+use Rattle.tsn_entries.specs.declared.entries.MarkedEntry.{MarkedEntry}
+use Rattle.tsn_entries.specs.Entries.{adds}
+use Rattle.tsn_entries.specs.Marks.{standing_change}
+use Rattle.tsn_journal.specs.Index.{belongs_to_others, is_on}
 use Rattle.tsn_journal.specs.declared.groups.Group.TheVariants.{On}
 use Rattle.tsn_types.specs.declared.keys.Key.{Key}
 use Rattle.tsn_types.specs.declared.keys.Key.TheVariants.{Port, Filter, Gate, Meter}

@@ -7,18 +7,14 @@ use Rattle.tsn_types.specs.declared.keys.Key.{Key}
 use Rattle.tsn_types.specs.Keys.{has, refs_of}
 use Rattle.tsn_edit.specs.Changes.{keys_of, refs_after}
 use Rattle.tsn_edit.specs.Parts.{Change, Part, parts}
-use Rattle.tsn_journal.specs.declared.entries.MarkedEntry.{MarkedEntry}
+use Rattle.tsn_entries.specs.declared.entries.MarkedEntry.{MarkedEntry}
 use Rattle.tsn_journal.specs.declared.groups.Group.{Group}
 use Rattle.tsn_journal.specs.declared.groups.Group.TheVariants.{On, RefersTo, Of, EndsRedo}
 use Rattle.tsn_journal.specs.declared.index.Index.{Index}
 use Rattle.tsn_journal.specs.declared.index.Node.{Node}
 use Rattle.tsn_journal.specs.Latest.{HasRows, TakesRows, latest_of, same_group}
-use Rattle.tsn_journal.specs.Entries.{added_parts, adds, is_made, most_entries}
-use Rattle.tsn_journal.specs.Marks.{ends_redo, is_own}
-
--- the change of a marked entry, where it stands
-abbrev pub standing_change : MarkedEntry → Option Change
-standing_change m = if m.is_open then adds m.entry.what else None
+use Rattle.tsn_entries.specs.Entries.{added_parts, adds, is_made, most_entries}
+use Rattle.tsn_entries.specs.Marks.{ends_redo, is_own, standing_change}
 
 -- whether the change, if there is one, is on the key
 abbrev pub is_on : Key → Option Change → Bool

@@ -1,11 +1,11 @@
 -- How a journal keeps its entries.
 use Rattle.std.specs.Prelude.{◌≡◌, ℕ, ◌+◌, ◌*◌, ◌≤◌, List, length}
-use Rattle.tsn_journal.specs.declared.entries.MarkedEntry.{MarkedEntry}
+use Rattle.tsn_entries.specs.declared.entries.MarkedEntry.{MarkedEntry}
 use Rattle.tsn_journal.specs.declared.index.Index.{Index}
 use Rattle.tsn_journal.specs.Crossed.{IsFreeAbove, IsNeeded, NoneReferred}
-use Rattle.tsn_journal.specs.Entries.{most_entries, settled}
+use Rattle.tsn_entries.specs.Entries.{most_entries, settled}
 use Rattle.tsn_journal.specs.Index.{HasRoom, IsIndexed, nodes_for}
-use Rattle.tsn_journal.specs.Marks.{AreOff, IsJournal, entries_of}
+use Rattle.tsn_entries.specs.Marks.{AreOff, IsJournal, entries_of}
 use Rattle.tsn_journal.specs.Newest.{AreNewest}
 use Rattle.tsn_journal.specs.Touched.{Tells}
 

@@ -1,10 +1,6 @@
 pub mod Crossed
-pub mod Entries
-pub mod Finding
 pub mod Index
 pub mod Kept
 pub mod Latest
-pub mod Marks
 pub mod Newest
-pub mod Tests
 pub mod Touched

@@ -2,13 +2,13 @@
 use Rattle.std.specs.Prelude.{◌≡◌, ℕ, ◌-◌, ◌++◌, true, List, [], ◌∷◌, Option, Some, None}
 use Rattle.std.specs.List.{slice_get}
 use Rattle.tsn_edit.specs.Parts.{Change, parts}
-use Rattle.tsn_journal.specs.declared.entries.Entry.{Entry}
-use Rattle.tsn_journal.specs.declared.entries.MarkedEntry.{MarkedEntry}
+use Rattle.tsn_entries.specs.declared.entries.Entry.{Entry}
+use Rattle.tsn_entries.specs.declared.entries.MarkedEntry.{MarkedEntry}
 use Rattle.tsn_journal.specs.declared.groups.Group.{Group}
 use Rattle.tsn_journal.specs.declared.groups.Group.TheVariants.{Of, EndsRedo}
 use Rattle.tsn_journal.specs.declared.index.Index.{Index}
 use Rattle.tsn_journal.specs.declared.index.Node.{Node}
-use Rattle.tsn_journal.specs.Entries.{adds}
+use Rattle.tsn_entries.specs.Entries.{adds}
 use Rattle.tsn_journal.specs.Index.{belongs, groups_of_parts, is_among, node_at}
 use Rattle.tsn_journal.specs.Latest.{latest_of}
 

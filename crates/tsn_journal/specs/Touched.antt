@@ -6,14 +6,14 @@ use Rattle.tsn_types.specs.declared.keys.Key.{Key}
 use Rattle.tsn_types.specs.Keys.{has}
 use Rattle.tsn_edit.specs.Changes.{keys_of, refs_after}
 use Rattle.tsn_edit.specs.Parts.{Change, parts}
-use Rattle.tsn_journal.specs.declared.entries.Entry.{Entry}
-use Rattle.tsn_journal.specs.declared.entries.MarkedEntry.{MarkedEntry}
+use Rattle.tsn_entries.specs.declared.entries.Entry.{Entry}
+use Rattle.tsn_entries.specs.declared.entries.MarkedEntry.{MarkedEntry}
 use Rattle.tsn_journal.specs.declared.index.Index.{Index}
-use Rattle.tsn_journal.specs.Entries.{IsNumbered, applies}
-use Rattle.tsn_journal.specs.Finding.{entry, last_where}
+use Rattle.tsn_entries.specs.Entries.{IsNumbered, applies}
+use Rattle.tsn_entries.specs.Finding.{entry, last_where}
 use Rattle.tsn_journal.specs.Index.{above, is_on, refers}
 use Rattle.tsn_journal.specs.Latest.{TakesRows, key_row, latest_of, referred_of, touched_of}
-use Rattle.tsn_journal.specs.Marks.{entries_of}
+use Rattle.tsn_entries.specs.Marks.{entries_of}
 use Rattle.tsn_journal.specs.declared.groups.Group.{Group}
 
 -- whether the entry applied a change on the key, and one of which a value after refers to the key

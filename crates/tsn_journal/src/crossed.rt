@@ -5,14 +5,14 @@
 //! above it need not be looked at where an entry that is blocked is sought.
 ghost use Rattle.std.specs.Prelude.{◌≡◌, ◌≤◌, ◌∷◌, [], Some, false, length};
 ghost use Rattle.tsn_journal.specs.Crossed.{IsFoundOn, IsRaised, NoneCrossed, NoneOn, NoneReferred, is_on_referred, is_referred};
-ghost use Rattle.tsn_journal.specs.Entries.{IsNumbered, adds};
+ghost use Rattle.tsn_entries.specs.Entries.{IsNumbered, adds};
 ghost use Rattle.tsn_journal.specs.Index.{IsIndexed};
-ghost use Rattle.tsn_journal.specs.Marks.{entries_of};
+ghost use Rattle.tsn_entries.specs.Marks.{entries_of};
 
-use crate::entries::{MarkedEntry, What};
 use crate::groups::Group;
 use crate::index::Index;
 use tsn_edit::Part;
+use tsn_entries::entries::{MarkedEntry, What};
 use tsn_types::keys::Key;
 
 /// The number, or the greater one up to which the session's change, where this adds one, is in conflict with what other

@@ -3,22 +3,22 @@ ghost use Rattle.std.specs.Prelude.{◌≡◌, ◌==◌, ◌+◌, ◌<◌, ◌�
 ghost use Rattle.std.specs.List.{find};
 ghost use Rattle.std.specs.Option.{option_and_then, option_copied};
 ghost use Rattle.tsn_journal.specs.Crossed.{IsFreeAbove};
-ghost use Rattle.tsn_journal.specs.Entries.{IsNoSettle, IsNumbered, applies, settles_to};
-ghost use Rattle.tsn_journal.specs.Finding.{last_where};
+ghost use Rattle.tsn_entries.specs.Entries.{IsNoSettle, IsNumbered, applies, settles_to};
+ghost use Rattle.tsn_entries.specs.Finding.{last_where};
 ghost use Rattle.tsn_journal.specs.Latest.{latest_of};
 ghost use Rattle.tsn_journal.specs.Index.{IsIndexed, TakesRoom, above, belongs, is_on_any, is_sought};
-ghost use Rattle.tsn_journal.specs.Marks.{AreOff, conflict_after, conflict_of_others, entries_of, is_in_conflict, is_own, later_of, mark_off, newest_blocked, stands};
+ghost use Rattle.tsn_entries.specs.Marks.{AreOff, conflict_after, conflict_of_others, entries_of, is_in_conflict, is_own, later_of, mark_off, newest_blocked, stands};
 ghost use Rattle.tsn_journal.specs.Newest.{KeepsNewest, MendsNewest, groups_of};
-ghost use Rattle.tsn_journal.specs.Tests.{Tests};
+ghost use Rattle.tsn_entries.specs.Tests.{Tests};
 ghost use Rattle.tsn_journal.specs.Touched.{TellsSame};
-ghost use Rattle.tsn_journal.specs.declared.entries.MarkedEntry.{MarkedEntry as AnyEntry};
-ghost use Rattle.tsn_journal.specs.declared.entries.What.TheVariants.{Settled};
+ghost use Rattle.tsn_entries.specs.declared.entries.MarkedEntry.{MarkedEntry as AnyEntry};
+ghost use Rattle.tsn_entries.specs.declared.entries.What.TheVariants.{Settled};
 
-use crate::entries::{Entry, MarkedEntry, What, last};
 use crate::groups::{Group, refs_of};
 use crate::index::Index;
 use std::alloc::{AllocError, Global};
 use tsn_edit::{Change, Part};
+use tsn_entries::entries::{Entry, MarkedEntry, What, last};
 use tsn_types::keys::Key;
 
 /// The number of the last entry that passes the test.

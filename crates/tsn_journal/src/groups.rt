@@ -1,11 +1,10 @@
 //! Groups of entries that a finder looks through.
 ghost use Rattle.std.specs.Prelude.{◌≡◌};
 ghost use Rattle.tsn_types.specs.Keys.{keys_of_refs, refs_of};
-ghost use Rattle.std.specs.Option.{option_copied};
-ghost use Rattle.tsn_journal.specs.Index.{belongs, standing_change};
+ghost use Rattle.tsn_journal.specs.Index.{belongs};
 
-use crate::entries::MarkedEntry;
-use tsn_edit::{Change, is_on, is_referred_after};
+use tsn_edit::{is_on, is_referred_after};
+use tsn_entries::entries::MarkedEntry;
 use tsn_types::keys::Key;
 use tsn_types::records::{Record, Refs};
 
@@ -41,33 +40,22 @@ pub(crate) fn refs_of(value: &Option<Record>) -> Refs
     }
 }
 
-impl MarkedEntry {
-    /// The change of the entry, where it stands.
-    fn standing_change(&self) -> Option<&Change>
-        ensures { option_copied result ≡ standing_change self.now }
-    {
-        if self.stands() {
-            self.entry.what.change()
-        } else {
-            None
-        }
-    }
-
+impl Group {
     /// Whether the entry belongs to the group.
-    pub(crate) fn is_in(&self, group: &Group) -> bool
-        ensures { result ≡ belongs group.now self.now }
+    pub(crate) fn has(&self, entry: &MarkedEntry) -> bool
+        ensures { result ≡ belongs self.now entry.now }
     {
-        match group {
-            Group::On(key) => match self.standing_change() {
+        match self {
+            Group::On(key) => match entry.standing_change() {
                 Some(change) => is_on(change.parts(), key),
                 None => false,
             },
-            Group::RefersTo(key) => match self.standing_change() {
+            Group::RefersTo(key) => match entry.standing_change() {
                 Some(change) => is_referred_after(change.parts(), key),
                 None => false,
             },
-            Group::Of(session) => self.is_own(*session),
-            Group::EndsRedo(session) => self.is_of(*session) && self.ends_redo(),
+            Group::Of(session) => entry.is_own(*session),
+            Group::EndsRedo(session) => entry.is_of(*session) && entry.ends_redo(),
         }
     }
 }

@@ -5,26 +5,26 @@
 //! still belong to the group, the marks say.
 ghost use Rattle.std.specs.Prelude.{◌≡◌, ◌&&◌, ◌*◌, ◌+◌, ◌-◌, ◌≤◌, ◌∷◌, [], Bool, IfOk, List, OnOk, Option, Some, drop, filter, length, map, option_map, option_to_list, slice_get, true};
 ghost use Rattle.std.specs.Option.{option_copied};
-ghost use Rattle.tsn_journal.specs.declared.entries.MarkedEntry.{MarkedEntry as AnyEntry};
+ghost use Rattle.tsn_entries.specs.declared.entries.MarkedEntry.{MarkedEntry as AnyEntry};
 ghost use Rattle.tsn_journal.specs.declared.groups.Group.{Group as AnyGroup};
 ghost use Rattle.tsn_types.specs.declared.keys.Key.{Key as AnyKey};
-ghost use Rattle.tsn_journal.specs.Entries.{most_entries};
-ghost use Rattle.tsn_journal.specs.Finding.{last_where};
+ghost use Rattle.tsn_entries.specs.Entries.{most_entries};
+ghost use Rattle.tsn_entries.specs.Finding.{last_where};
 ghost use Rattle.tsn_journal.specs.declared.groups.Group.TheVariants.{EndsRedo, Of, On, RefersTo};
 ghost use Rattle.tsn_journal.specs.Index.{Adds, AreNodes, HasNodes, HasRoom, IsIndexed, IsIndexedBut, IsIndexedButNewest, IsLast, IsNewest, NewestAdds, NoneBetween, NoneFrom, TakesNoRoom, TakesNodes, TakesRoom, belongs, belongs_to_others, group_if, groups_of_parts, is_by, most_nodes, number_at, other_of, nodes_for};
 ghost use Rattle.tsn_journal.specs.Latest.{latest_of};
-ghost use Rattle.tsn_journal.specs.Marks.{AreOff, IsTally, is_own};
+ghost use Rattle.tsn_entries.specs.Marks.{AreOff, IsTally, is_own};
 ghost use Rattle.tsn_journal.specs.Newest.{IsIn, KeepsNewest, MendsNewest, groups_of};
-ghost use Rattle.tsn_journal.specs.Tests.{Tests};
+ghost use Rattle.tsn_entries.specs.Tests.{Tests};
 ghost use Rattle.tsn_journal.specs.Touched.{NewestTold, Tells, TellsSame, Told};
 ghost use Rattle.tsn_edit.specs.Changes.{keys_of, refs_after};
 ghost use Rattle.tsn_edit.specs.Parts.{parts};
 
-use crate::entries::{Entry, MarkedEntry, What, last};
 use crate::groups::{Group, refs_of};
 use crate::latest_rows::{KeyNodes, Latest, SessionNodes};
 use std::alloc::{AllocError, Global};
 use tsn_edit::{Change, Part};
+use tsn_entries::entries::{Entry, MarkedEntry, What, last};
 use tsn_types::keys::Key;
 
 /// How many entries are looked at in order in the time that one takes that is found by its node.
@@ -450,7 +450,7 @@ impl Index {
             if u64::from(at.number) <= settled {
                 return 0;
             }
-            if numbered(marked, at.number).is_in(group) {
+            if group.has(numbered(marked, at.number)) {
                 return node;
             }
             node = at.before;
@@ -556,7 +556,7 @@ impl Index {
         'back: while node != 0 {
             let found = &self.nodes[node as usize - 1];
             let entry = numbered(marked, found.number);
-            if entry.is_in(group) && test(entry) {
+            if group.has(entry) && test(entry) {
                 return Some(entry);
             }
             node = found.before;
@@ -627,7 +627,7 @@ impl Index {
             let entry = numbered(marked, found.number);
             if entry.is_of(session) {
                 node = found.other;
-            } else if entry.is_in(group) {
+            } else if group.has(entry) {
                 return Some(entry);
             } else {
                 node = found.before;

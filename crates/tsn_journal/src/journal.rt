@@ -4,12 +4,11 @@
 ghost use Rattle.std.specs.Prelude.{◌≡◌, ◌*◌, ◌+◌, ◌≤◌, [], IfErr, IfOk, IfSome, IsOk, IsSome, None, OnErr, OnOk, Some, is_some, length, map, option_map};
 ghost use Rattle.std.specs.Option.{option_copied};
 ghost use Rattle.tsn_types.specs.Refusals.{IsLeastOrMemory};
-ghost use Rattle.tsn_journal.specs.Entries.{Applied, added_parts, most_entries, no_room, settled, settles_to, with_entry};
-ghost use Rattle.tsn_journal.specs.Marks.{entries_of};
-ghost use Rattle.tsn_journal.specs.Finding.{entry, find_conflict, find_conflict_of_others, find_own_in_conflict, find_redo_conflict, last_of, own_standing, parts_of_all, redo_of, since, standing_entry, undone_entry};
+ghost use Rattle.tsn_entries.specs.Entries.{Applied, added_parts, most_entries, no_room, settled, settles_to, with_entry};
+ghost use Rattle.tsn_entries.specs.Marks.{entries_of};
+ghost use Rattle.tsn_entries.specs.Finding.{entry, find_conflict, find_conflict_of_others, find_own_in_conflict, find_redo_conflict, last_of, own_standing, parts_of_all, redo_of, since, standing_entry, undone_entry};
 
 use crate::crossed::crossed_by;
-use crate::entries::{Entries, Entry, MarkedEntry, What};
 use crate::finding::{
     after, at, conflict_of_others, leave, own_in_conflict, put_off, standing_conflict_after,
 };
@@ -18,6 +17,7 @@ use crate::index::Index;
 use crate::touched::redo_conflict;
 use std::alloc::{AllocError, Global};
 use std::marker::Model;
+use tsn_entries::entries::{Entries, Entry, MarkedEntry, What};
 use tsn_types::refusals::Refusal;
 
 /// How many entries a journal holds at most.
@@ -43,7 +43,7 @@ pub struct Journal {
 impl Model for Journal {
     ghost use Rattle.std.specs.Vec.{vec_capacity, vec_len};
     ghost use Rattle.tsn_journal.specs.Kept.{IsKept};
-    ghost use Rattle.tsn_journal.specs.Marks.{Log, entries_of, log_code};
+    ghost use Rattle.tsn_entries.specs.Marks.{Log, entries_of, log_code};
 
     ghost Value = { Log };
 

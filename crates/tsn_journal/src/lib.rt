@@ -7,7 +7,6 @@
 #![tactic(auto)]
 
 mod crossed;
-pub mod entries;
 mod finding;
 mod groups;
 mod index;
@@ -16,3 +15,5 @@ mod latest;
 mod latest_rows;
 pub mod laws;
 mod touched;
+
+pub use tsn_entries::entries;

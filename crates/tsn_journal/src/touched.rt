@@ -6,19 +6,19 @@ ghost use Rattle.std.specs.Prelude.{◌≡◌, ◌≤◌, ◌&&◌, ◌∷◌, [
 ghost use Rattle.std.specs.Option.{option_and_then, option_copied};
 ghost use Rattle.tsn_edit.specs.Changes.{keys_of, refs_after};
 ghost use Rattle.tsn_edit.specs.Parts.{parts};
-ghost use Rattle.tsn_journal.specs.declared.entries.Entry.{Entry as AnyEntry};
-ghost use Rattle.tsn_journal.specs.declared.entries.MarkedEntry.{MarkedEntry as AnyMarkedEntry};
-ghost use Rattle.tsn_journal.specs.Entries.{IsNumbered, applies};
-ghost use Rattle.tsn_journal.specs.Finding.{entry, last_where};
+ghost use Rattle.tsn_entries.specs.declared.entries.Entry.{Entry as AnyEntry};
+ghost use Rattle.tsn_entries.specs.declared.entries.MarkedEntry.{MarkedEntry as AnyMarkedEntry};
+ghost use Rattle.tsn_entries.specs.Entries.{IsNumbered, applies};
+ghost use Rattle.tsn_entries.specs.Finding.{entry, last_where};
 ghost use Rattle.tsn_journal.specs.Index.{above};
-ghost use Rattle.tsn_journal.specs.Marks.{conflict_after, entries_of, is_in_conflict};
+ghost use Rattle.tsn_entries.specs.Marks.{conflict_after, entries_of, is_in_conflict};
 ghost use Rattle.tsn_journal.specs.Touched.{CanTell, KeepsNodes, Tells, Told, some_number, told_on, touches};
 
-use crate::entries::{Entry, MarkedEntry};
 use crate::finding::{above, conflict_after, later_of};
 use crate::groups::refs_of;
 use crate::index::Index;
 use tsn_edit::{Change, Part};
+use tsn_entries::entries::{Entry, MarkedEntry};
 use tsn_types::keys::Key;
 
 impl Index {

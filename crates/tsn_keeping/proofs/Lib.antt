@@ -1,3 +1,2 @@
-mod Empty
 pub mod Entering
 pub mod Stamped

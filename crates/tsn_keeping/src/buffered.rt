@@ -1,6 +1,5 @@
 //! A device behind a buffer: it is given bytes only when the buffer is full, or when all is to be kept.
-ghost use Rattle.std.specs.Prelude.{◌≡◌, ◌≢◌, ◌+◌, ◌≤◌, ◌<◌, ◌++◌, [], vec_len, vec_capacity, length, true, false, IfOk, OnOk, OnErr};
-ghost use Rattle.std.specs.Bool.{OnTrue, OnFalse};
+ghost use Rattle.std.specs.Prelude.{◌≡◌, ◌+◌, ◌≤◌, ◌<◌, ◌++◌, [], vec_len, vec_capacity, length, true, false, IfOk, OnOk, OnErr};
 
 use std::alloc::{AllocError, Global};
 use std::marker::Model;
@@ -57,18 +56,6 @@ impl<D: Device> BufferedDevice<D> {
         ensures { result ≡ self.now.works }
     {
         self.works
-    }
-
-    /// Whether nothing waits for the device, nor for a sync of it.
-    #[tactic(auto, using(crate::proofs::Empty::not_empty_behind))]
-    pub(crate) fn is_settled(&self) -> bool
-        ensures yes { OnTrue result ((self.now.loose ≡ []) × (self.now.waiting ≡ [])) }
-        ensures no { self.now.works ≡ true → OnFalse result (self.now.loose ++ self.now.waiting ≢ []) }
-    {
-        if self.buffer.is_empty() {
-            return !self.has_loose;
-        }
-        false
     }
 
     // Gives the device these bytes, 1 or more, while none wait.

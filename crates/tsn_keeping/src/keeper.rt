@@ -1,6 +1,5 @@
 //! The keeper of a journal.
-ghost use Rattle.std.specs.Prelude.{◌≡◌, ◌≢◌, [], true, false, IfOk, OnOk, OnErr};
-ghost use Rattle.std.specs.Bool.{OnTrue, OnFalse};
+ghost use Rattle.std.specs.Prelude.{◌≡◌, [], true, false, IfOk, OnOk, OnErr};
 ghost use Rattle.tsn_device.specs.Kept.{BeginsWith};
 ghost use Rattle.tsn_recorded.specs.Text.{Recorded, IsRecordedAfter};
 ghost use Rattle.tsn_keeping.specs.Keeping.{with_entered, with_settled};
@@ -61,14 +60,6 @@ impl<D: Device> Keeper<D> {
         ensures { result ≡ self.now.works }
     {
         self.behind.works()
-    }
-
-    /// Whether all that was entered is kept. As long as no call has failed it says no only where something is not.
-    pub fn is_settled(&self) -> bool
-        ensures yes { OnTrue result (self.now.unsettled ≡ []) }
-        ensures no { self.now.works ≡ true → OnFalse result (self.now.unsettled ≢ []) }
-    {
-        self.behind.is_settled()
     }
 
     /// Enters the line of a command with this stamp behind all others. Where it fails, what is kept stays kept, and no

@@ -7,8 +7,8 @@ use Rattle.tsn_bytes.specs.Bytes.{IsCut}
 use Rattle.tsn_keeping.specs.Keeping.{Keeping, with_settled}
 use Rattle.std.proofs.lemmas.List.{append-nil, map-append, take-append-drop, take-append-le, take_all}
 use Rattle.tsn_types.specs.declared.refusals.Refusal.{Refusal}
-use Rattle.tsn_bridge.specs.declared.command.Ask.{Ask}
-use Rattle.tsn_bridge.specs.declared.reply.Reply.{Reply}
+use Rattle.tsn_commands.specs.declared.command.Ask.{Ask}
+use Rattle.tsn_commands.specs.declared.reply.Reply.{Reply}
 use Rattle.tsn_replies.specs.Replies.{reply_text}
 use Rattle.tsn_bridge.specs.Histories.{Answered}
 use Rattle.tsn_recorded.specs.Text.{Recorded, text_after}

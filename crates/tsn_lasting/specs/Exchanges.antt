@@ -1,10 +1,11 @@
 -- Lines with their replies, over a bridge with a recorder.
 use Rattle.std.specs.Prelude.{◌≡◌, ℕ, List, [], ◌∷◌, ◌++◌, Option, Some, None, Result, Ok, Err, map}
 use Rattle.tsn_types.specs.declared.refusals.Refusal.{Refusal}
-use Rattle.tsn_bridge.specs.declared.command.Ask.{Ask}
-use Rattle.tsn_bridge.specs.declared.reply.Reply.{Reply}
-use Rattle.tsn_bridge.specs.declared.reply.Reply.TheVariants.{Refused}
-use Rattle.tsn_bridge.specs.Histories.{Answered, CommandInRange}
+use Rattle.tsn_commands.specs.declared.command.Ask.{Ask}
+use Rattle.tsn_commands.specs.declared.reply.Reply.{Reply}
+use Rattle.tsn_commands.specs.declared.reply.Reply.TheVariants.{Refused}
+use Rattle.tsn_bridge.specs.Histories.{Answered}
+use Rattle.tsn_commands.specs.Commands.{CommandInRange}
 use Rattle.tsn_bridge.specs.State.{State}
 use Rattle.tsn_replies.specs.Replies.{reply_text}
 use Rattle.tsn_replay.specs.Handling.{Handles}

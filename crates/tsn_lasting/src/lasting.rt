@@ -15,9 +15,9 @@ use tsn_bridge::bridge::Bridge;
 use tsn_bridge::command::Ask;
 use tsn_bridge::reply::Reply;
 use tsn_bytes::{ByteOut, Fault, put_all};
-use tsn_desk::machine::Machine;
 use tsn_device::{Device, Failed};
 use tsn_keeping::{Clock, Keeper, Stamp};
+use tsn_machine::machine::Machine;
 use tsn_replay::recorder::{Recorder, Spell};
 use tsn_replies::write_reply;
 use tsn_serve::{Ended, MAX_LINE, Responder, read_line};
@@ -106,13 +106,6 @@ impl<C: Clock, D: Device, W: ByteOut> Lasting<C, D, W> {
             writer,
             fault: None,
         })
-    }
-
-    /// The bridge.
-    pub fn bridge(&self) -> &Bridge
-        ensures { result.now ≡ self.now.bridge }
-    {
-        self.recorder.bridge()
     }
 
     /// The journal.

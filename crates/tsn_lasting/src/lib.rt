@@ -15,4 +15,3 @@ mod running;
 pub use backlog::{Backlog, Nowhere};
 pub use lasting::{CommandLine, Lasting, LastingFault};
 pub use running::run_lasting;
-pub use tsn_keeping::{Clock, Stamp};

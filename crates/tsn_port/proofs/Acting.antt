@@ -12,12 +12,12 @@ use Rattle.tsn_edit.specs.Changes.{part_of}
 use Rattle.tsn_edit.specs.Parts.{Change, Part, parts}
 use Rattle.tsn_schedule.specs.Acts.{Act, Disable, Enable, IsHistory, is_enabled, last_instant}
 use Rattle.tsn_schedule.specs.Refusing.{has_entries}
-use Rattle.tsn_journal.specs.declared.entries.Act.{Act as Asked}
-use Rattle.tsn_journal.specs.declared.entries.Act.TheVariants as asked
-use Rattle.tsn_journal.specs.declared.entries.Entry.{Entry}
-use Rattle.tsn_journal.specs.declared.entries.What.{What}
-use Rattle.tsn_journal.specs.declared.entries.What.TheVariants.{Acted}
-use Rattle.tsn_journal.specs.Entries.{applies}
+use Rattle.tsn_entries.specs.declared.entries.Act.{Act as Asked}
+use Rattle.tsn_entries.specs.declared.entries.Act.TheVariants as asked
+use Rattle.tsn_entries.specs.declared.entries.Entry.{Entry}
+use Rattle.tsn_entries.specs.declared.entries.What.{What}
+use Rattle.tsn_entries.specs.declared.entries.What.TheVariants.{Acted}
+use Rattle.tsn_entries.specs.Entries.{applies}
 use Rattle.tsn_bridge.specs.Objects.{Object, after_entry, after_part, lived, port_schedule, with_asked}
 use Rattle.tsn_bridge.proofs.Following.{applied_entry}
 use Rattle.tsn_port.proofs.Taking.{after}

@@ -11,18 +11,19 @@ use Rattle.tsn_types.specs.declared.refusals.Field.TheVariants as fields
 use Rattle.tsn_types.specs.declared.refusals.Refusal.TheVariants as refusals
 use Rattle.tsn_types.specs.Limits.{holds_key, unless}
 use Rattle.tsn_types.specs.Refusals.{least}
-use Rattle.tsn_journal.specs.Finding.{since}
+use Rattle.tsn_entries.specs.Finding.{since}
 use Rattle.tsn_undo.specs.Ledger.{present}
 use Rattle.tsn_undo.proofs.Making.{kept_now}
-use Rattle.tsn_bridge.specs.declared.command.Command.TheVariants as commands
-use Rattle.tsn_bridge.specs.declared.reply.Reply.{Reply}
-use Rattle.tsn_bridge.specs.declared.reply.Reply.TheVariants.{Known, Refused, Session, Shown}
+use Rattle.tsn_commands.specs.declared.command.Command.TheVariants as commands
+use Rattle.tsn_commands.specs.declared.reply.Reply.{Reply}
+use Rattle.tsn_commands.specs.declared.reply.Reply.TheVariants.{Known, Refused, Session, Shown}
 use Rattle.tsn_bridge.specs.Later.{IsWhole}
 use Rattle.tsn_bridge.specs.Machine.{Step}
 use Rattle.tsn_bridge.specs.Reads.{show_rule, since_rule}
 use Rattle.tsn_bridge.specs.Rule.{Allows, is_given, look_rule}
 use Rattle.tsn_bridge.specs.Names.{known}
-use Rattle.tsn_bridge.specs.Sessions.{hello_as, most_sessions, new_session}
+use Rattle.tsn_bridge.specs.Sessions.{hello_as, new_session}
+use Rattle.tsn_commands.specs.Commands.{most_sessions}
 use Rattle.tsn_bridge.specs.State.{State}
 use Rattle.tsn_bridge.proofs.AtOnce.{done_of}
 use Rattle.tsn_bridge.proofs.Naming.{known_given}

@@ -9,18 +9,18 @@ use Rattle.tsn_types.specs.declared.limits.Limits.{Limits}
 use Rattle.tsn_types.specs.declared.records.PortEntry.{PortEntry}
 use Rattle.tsn_types.specs.declared.records.PortGates.{PortGates}
 use Rattle.tsn_types.specs.declared.records.Record.TheVariants as records
-use Rattle.tsn_journal.specs.declared.entries.Entry.{Entry}
-use Rattle.tsn_journal.specs.declared.entries.MarkedEntry.{MarkedEntry}
-use Rattle.tsn_journal.specs.Entries.{IsNumbered}
-use Rattle.tsn_journal.specs.Finding.{since}
-use Rattle.tsn_journal.specs.Marks.{entries_of}
+use Rattle.tsn_entries.specs.declared.entries.Entry.{Entry}
+use Rattle.tsn_entries.specs.declared.entries.MarkedEntry.{MarkedEntry}
+use Rattle.tsn_entries.specs.Entries.{IsNumbered}
+use Rattle.tsn_entries.specs.Finding.{since}
+use Rattle.tsn_entries.specs.Marks.{entries_of}
 use Rattle.tsn_journal.proofs.Collecting.{since-drop}
-use Rattle.tsn_desk.specs.declared.history.Entry.{Entry as Call}
-use Rattle.tsn_desk.specs.History.{Begins, Runs, call}
-use Rattle.tsn_bridge.specs.declared.command.Ask.{Ask}
-use Rattle.tsn_bridge.specs.declared.command.Command.TheVariants as commands
-use Rattle.tsn_bridge.specs.declared.reply.Reply.{Reply}
-use Rattle.tsn_bridge.specs.declared.reply.Reply.TheVariants as replies
+use Rattle.tsn_machine.specs.declared.history.Entry.{Entry as Call}
+use Rattle.tsn_machine.specs.History.{Begins, Runs, call}
+use Rattle.tsn_commands.specs.declared.command.Ask.{Ask}
+use Rattle.tsn_commands.specs.declared.command.Command.TheVariants as commands
+use Rattle.tsn_commands.specs.declared.reply.Reply.{Reply}
+use Rattle.tsn_commands.specs.declared.reply.Reply.TheVariants as replies
 use Rattle.tsn_bridge.specs.Later.{IsLater}
 use Rattle.tsn_bridge.specs.Reached.{IsReached}
 use Rattle.tsn_bridge.specs.Later as later

@@ -5,3 +5,4 @@ pub mod Openings
 pub mod Ports
 pub mod Taking
 pub mod Working
+pub mod Crossing

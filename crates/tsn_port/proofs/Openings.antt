@@ -10,10 +10,10 @@ use Rattle.tsn_edit.specs.Changes.{after_change, part_of}
 use Rattle.tsn_edit.specs.Configuration.{Configuration, IsWellKept}
 use Rattle.tsn_edit.specs.Parts.{Change, Part, parts}
 use Rattle.tsn_edit.proofs.KeyFacts.{after_or, by_option, each_part, get-after_change, part_on, part_on_some}
-use Rattle.tsn_journal.specs.declared.entries.Entry.{Entry}
-use Rattle.tsn_journal.specs.declared.entries.What.{What}
-use Rattle.tsn_journal.specs.declared.entries.What.TheVariants.{Made, Undone, Redone, Acted, Settled}
-use Rattle.tsn_journal.specs.Entries.{applies}
+use Rattle.tsn_entries.specs.declared.entries.Entry.{Entry}
+use Rattle.tsn_entries.specs.declared.entries.What.{What}
+use Rattle.tsn_entries.specs.declared.entries.What.TheVariants.{Made, Undone, Redone, Acted, Settled}
+use Rattle.tsn_entries.specs.Entries.{applies}
 use Rattle.tsn_undo.specs.Soundness.{configuration}
 use Rattle.tsn_bridge.proofs.TiedActs.{changed_by, configured}
 use Rattle.tsn_port.specs.Mirrors.{first_record, port_in, port_part, record_before}

@@ -18,13 +18,13 @@ use Rattle.tsn_edit.specs.Runs.{IsGood}
 use Rattle.tsn_edit.proofs.KeyFacts.{one_key}
 use Rattle.tsn_schedule.specs.Acts.{IsHistory, last_instant}
 use Rattle.tsn_schedule.specs.States.{state_in}
-use Rattle.tsn_journal.specs.declared.entries.Act.{Act as Asked}
-use Rattle.tsn_journal.specs.declared.entries.Act.TheVariants as asked
-use Rattle.tsn_journal.specs.declared.entries.Entry.{Entry}
-use Rattle.tsn_journal.specs.declared.entries.What.{What}
-use Rattle.tsn_journal.specs.declared.entries.What.TheVariants.{Made, Undone, Redone, Acted, Settled}
-use Rattle.tsn_journal.specs.Entries.{Applied, applies, changes, collect, undone, with_entry}
-use Rattle.tsn_journal.specs.Finding.{own_standing}
+use Rattle.tsn_entries.specs.declared.entries.Act.{Act as Asked}
+use Rattle.tsn_entries.specs.declared.entries.Act.TheVariants as asked
+use Rattle.tsn_entries.specs.declared.entries.Entry.{Entry}
+use Rattle.tsn_entries.specs.declared.entries.What.{What}
+use Rattle.tsn_entries.specs.declared.entries.What.TheVariants.{Made, Undone, Redone, Acted, Settled}
+use Rattle.tsn_entries.specs.Entries.{Applied, applies, changes, collect, undone, with_entry}
+use Rattle.tsn_entries.specs.Finding.{own_standing}
 use Rattle.tsn_undo.specs.Ledger.{Ledger, present}
 use Rattle.tsn_undo.specs.UndoAll.{with_undone}
 use Rattle.tsn_undo.proofs.Making.{kept_now}

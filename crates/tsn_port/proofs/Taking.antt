@@ -7,7 +7,7 @@ use Rattle.tsn_types.specs.declared.keys.Key.TheVariants.{Port}
 use Rattle.tsn_types.specs.declared.records.PortEntry.{PortEntry}
 use Rattle.tsn_types.specs.declared.records.PortGates.{PortGates}
 use Rattle.tsn_types.specs.declared.records.Record.TheVariants as records
-use Rattle.tsn_journal.specs.declared.entries.Entry.{Entry}
+use Rattle.tsn_entries.specs.declared.entries.Entry.{Entry}
 use Rattle.tsn_bridge.specs.Objects.{Object, after_entry, port_schedule}
 use Rattle.tsn_bridge.proofs.Following.{object_push}
 use Rattle.tsn_port.specs.Mirrors.{AreOfPort, IsOfPort, MirrorState, Mirrors, Shows, mirrored}

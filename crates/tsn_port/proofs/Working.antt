@@ -9,19 +9,19 @@ use Rattle.tsn_types.specs.declared.records.Record.TheVariants as records
 use Rattle.tsn_types.specs.declared.refusals.Field.TheVariants as fields
 use Rattle.tsn_types.specs.declared.refusals.Refusal.TheVariants as refusals
 use Rattle.tsn_schedule.specs.Acts.{last_instant}
-use Rattle.tsn_journal.specs.declared.entries.Entry.{Entry}
-use Rattle.tsn_journal.specs.Entries.{applies, changes, collect}
+use Rattle.tsn_entries.specs.declared.entries.Entry.{Entry}
+use Rattle.tsn_entries.specs.Entries.{applies, changes, collect}
 use Rattle.tsn_edit.specs.Runs.{IsGood}
 use Rattle.tsn_undo.specs.Ledger.{present}
 use Rattle.tsn_undo.specs.Soundness.{configuration}
 use Rattle.tsn_desk.specs.declared.desk.Desk.{Desk}
-use Rattle.tsn_desk.specs.declared.history.Entry.{Entry as Call}
+use Rattle.tsn_machine.specs.declared.history.Entry.{Entry as Call}
 use Rattle.tsn_desk.specs.Desks.{HasSeenMore, HasTurned, IsSameCaller, IsSeatOf, first_of, made, number, seen}
-use Rattle.tsn_desk.specs.History.{Begins, IsLegal, Runs, call, calls_by}
-use Rattle.tsn_desk.proofs.Begin.{begins_self, begins_trans}
-use Rattle.tsn_bridge.specs.declared.command.Ask.{Ask}
-use Rattle.tsn_bridge.specs.declared.reply.Reply.{Reply}
-use Rattle.tsn_bridge.specs.declared.reply.Reply.TheVariants as replies
+use Rattle.tsn_machine.specs.History.{Begins, IsLegal, Runs, call, calls_by}
+use Rattle.tsn_machine.proofs.Begin.{begins_self, begins_trans}
+use Rattle.tsn_commands.specs.declared.command.Ask.{Ask}
+use Rattle.tsn_commands.specs.declared.reply.Reply.{Reply}
+use Rattle.tsn_commands.specs.declared.reply.Reply.TheVariants as replies
 use Rattle.tsn_bridge.specs.Reached.{IsReached}
 use Rattle.tsn_bridge.specs.Rule.{is_given}
 use Rattle.tsn_bridge.specs.State.{State}

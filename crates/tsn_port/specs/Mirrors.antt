@@ -15,10 +15,10 @@ use Rattle.tsn_schedule.specs.Acts.{IsHistory}
 use Rattle.tsn_schedule.specs.Kept.{Kept, kept_code}
 use Rattle.tsn_schedule.specs.Stands.{StandsFor}
 use Rattle.tsn_schedule.specs.States.{state_in}
-use Rattle.tsn_journal.specs.declared.entries.Act.{Act as Asked}
-use Rattle.tsn_journal.specs.declared.entries.Entry.{Entry}
-use Rattle.tsn_journal.specs.declared.entries.What.{What}
-use Rattle.tsn_journal.specs.Entries.{applies}
+use Rattle.tsn_entries.specs.declared.entries.Act.{Act as Asked}
+use Rattle.tsn_entries.specs.declared.entries.Entry.{Entry}
+use Rattle.tsn_entries.specs.declared.entries.What.{What}
+use Rattle.tsn_entries.specs.Entries.{applies}
 use Rattle.tsn_bridge.specs.Objects.{Object, after_entry, object, port_schedule, with_asked}
 
 -- the port's number and record, what its runner keeps, and how many entries are in

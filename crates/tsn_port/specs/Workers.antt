@@ -9,16 +9,16 @@ use Rattle.tsn_types.specs.declared.refusals.Refusal.TheVariants as refusals
 use Rattle.tsn_chain.specs.declared.state.State.TheVariants as states
 use Rattle.tsn_desk.specs.declared.desk.Desk.{Desk}
 use Rattle.tsn_desk.specs.declared.desk.Seat.{Seat}
-use Rattle.tsn_desk.specs.declared.history.Entry.{Entry as Call}
+use Rattle.tsn_machine.specs.declared.history.Entry.{Entry as Call}
 use Rattle.tsn_desk.specs.Desks.{IsSeatOf, first_of, made, number, seen, tickets}
-use Rattle.tsn_desk.specs.History.{Begins, IsLegal, Runs, call, calls_by}
-use Rattle.tsn_journal.specs.declared.entries.Entry.{Entry}
+use Rattle.tsn_machine.specs.History.{Begins, IsLegal, Runs, call, calls_by}
+use Rattle.tsn_entries.specs.declared.entries.Entry.{Entry}
 use Rattle.tsn_undo.specs.Ledger.{present}
 use Rattle.tsn_bridge.specs.contracts.machine.BridgeMachine.TheImpl.{ghosts}
-use Rattle.tsn_bridge.specs.declared.command.Ask.{Ask}
-use Rattle.tsn_bridge.specs.declared.command.Command.TheVariants as commands
-use Rattle.tsn_bridge.specs.declared.reply.Reply.{Reply}
-use Rattle.tsn_bridge.specs.declared.reply.Reply.TheVariants as replies
+use Rattle.tsn_commands.specs.declared.command.Ask.{Ask}
+use Rattle.tsn_commands.specs.declared.command.Command.TheVariants as commands
+use Rattle.tsn_commands.specs.declared.reply.Reply.{Reply}
+use Rattle.tsn_commands.specs.declared.reply.Reply.TheVariants as replies
 use Rattle.tsn_bridge.specs.Reached.{IsReached}
 use Rattle.tsn_bridge.specs.Looking.{last_at, shown_at}
 use Rattle.tsn_bridge.specs.Rule.{is_given}

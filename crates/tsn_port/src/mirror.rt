@@ -6,7 +6,7 @@ ghost use Rattle.tsn_types.specs.declared.records.PortEntry.{PortEntry as AnyPor
 ghost use Rattle.tsn_types.specs.declared.records.PortGates.{PortGates as AnyPortGates};
 ghost use Rattle.tsn_schedule.specs.Acts.{IsHistory, last_instant};
 ghost use Rattle.tsn_schedule.specs.Kept.{fresh};
-ghost use Rattle.tsn_journal.specs.declared.entries.Entry.{Entry as AnyEntry};
+ghost use Rattle.tsn_entries.specs.declared.entries.Entry.{Entry as AnyEntry};
 ghost use Rattle.tsn_bridge.specs.Objects.{Object, after_entry, after_part, port_schedule};
 ghost use Rattle.tsn_port.specs.Mirrors.{AreOfPort, IsOfPort, Mirrors, Shows, ShowsGates, acted, first_record, mirrored, port_part, record_before};
 

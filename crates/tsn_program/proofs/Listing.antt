@@ -17,9 +17,9 @@ use Rattle.tsn_bridge.specs.Looking.{shown_at, states_rule}
 use Rattle.tsn_bridge.specs.Machine.{Step}
 use Rattle.tsn_bridge.specs.State.{State}
 use Rattle.tsn_bridge.proofs.Stepping.{AllowsAt}
-use Rattle.tsn_bridge.specs.declared.command.Command.TheVariants as commands
-use Rattle.tsn_bridge.specs.declared.reply.Reply.{Reply}
-use Rattle.tsn_bridge.specs.declared.reply.Reply.TheVariants as replies
+use Rattle.tsn_commands.specs.declared.command.Command.TheVariants as commands
+use Rattle.tsn_commands.specs.declared.reply.Reply.{Reply}
+use Rattle.tsn_commands.specs.declared.reply.Reply.TheVariants as replies
 use Rattle.tsn_types.specs.declared.limits.Limits.{Limits}
 use Rattle.tsn_program.specs.Listing.{Enables, EnablesNot, IsSeenFrom, gates_told, listing_refusal, shows}
 use Rattle.tsn_words.specs.declared.arguments.Listing.{Listing}

@@ -13,10 +13,10 @@ use Rattle.tsn_types.specs.Refusals.{least}
 use Rattle.tsn_edit.proofs.KeyFacts.{same_itself}
 use Rattle.tsn_edit.specs.Runs.{run}
 use Rattle.tsn_schedule.specs.Acts.{last_instant}
-use Rattle.tsn_journal.specs.declared.entries.Act.{Act as Asked}
-use Rattle.tsn_journal.specs.declared.entries.Act.TheVariants as asked
-use Rattle.tsn_journal.specs.declared.entries.What.TheVariants.{Acted}
-use Rattle.tsn_journal.specs.Entries.{no_room}
+use Rattle.tsn_entries.specs.declared.entries.Act.{Act as Asked}
+use Rattle.tsn_entries.specs.declared.entries.Act.TheVariants as asked
+use Rattle.tsn_entries.specs.declared.entries.What.TheVariants.{Acted}
+use Rattle.tsn_entries.specs.Entries.{no_room}
 use Rattle.tsn_undo.specs.Ledger.{present}
 use Rattle.tsn_undo.proofs.Adding.{nothing_push}
 use Rattle.tsn_bridge.specs.Acts.{acted_state, apply_rule, enable_rule, instant, list_causes}
@@ -25,14 +25,14 @@ use Rattle.tsn_bridge.specs.Objects.{Object, object, port_at, port_schedule, wit
 use Rattle.tsn_bridge.specs.Rule.{Allows, Rule, is_given}
 use Rattle.tsn_bridge.specs.Sessions.{hello_rule}
 use Rattle.tsn_bridge.specs.State.{State}
-use Rattle.tsn_bridge.specs.declared.command.Command.TheVariants as commands
-use Rattle.tsn_bridge.specs.declared.reply.Reply.{Reply}
+use Rattle.tsn_commands.specs.declared.command.Command.TheVariants as commands
+use Rattle.tsn_commands.specs.declared.reply.Reply.{Reply}
 use Rattle.tsn_bridge.proofs.LastActs.{asked_last}
 use Rattle.tsn_bridge.proofs.Following.{object_push}
 use Rattle.tsn_bridge.proofs.Families.{state_of}
 use Rattle.tsn_bridge.proofs.Stepping.{accepted}
 use Rattle.tsn_program.specs.Listing.{Applies, IsSeenFrom, Takes, refusal_told}
-use Rattle.tsn_setup.specs.Opening.{IsNew}
+use Rattle.tsn_initial.specs.Opening.{IsNew}
 use Rattle.tsn_config.proofs.Batches.{none_lesser}
 use Rattle.tsn_types.proofs.Causes.{unless-None}
 

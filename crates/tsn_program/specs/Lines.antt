@@ -4,13 +4,13 @@ use Rattle.tsn_types.specs.declared.refusals.Refusal.{Refusal}
 use Rattle.tsn_types.specs.Refusals.{name_of, number_of}
 use Rattle.tsn_bytes.specs.declared.bytes.Fault.{Fault}
 use Rattle.tsn_bytes.specs.declared.bytes.Fault.TheVariants.{Exhausted, Write}
-use Rattle.tsn_bridge.specs.declared.command.Ask.{Ask}
+use Rattle.tsn_commands.specs.declared.command.Ask.{Ask}
 use Rattle.tsn_serve.specs.Answers.{MayRead}
 use Rattle.tsn_serve.specs.Outcomes.{Moment, Outcome, most_reads}
 use Rattle.tsn_serve.specs.Script.{Answering, Breaking, IsFront}
-use Rattle.tsn_program.specs.Failures.{failure_line}
-use Rattle.tsn_program.specs.Program.{IsSilent, Output, Tells}
-use Rattle.tsn_program.specs.declared.failures.Failure.TheVariants as failures
+use Rattle.tsn_failures.specs.Failures.{failure_line}
+use Rattle.tsn_failures.specs.Output.{IsSilent, Output, Tells}
+use Rattle.tsn_failures.specs.declared.failures.Failure.TheVariants as failures
 
 -- How many lines there were, and how many of them can't be asked.
 pub record Looked : Type 0 where

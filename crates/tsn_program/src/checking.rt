@@ -1,17 +1,17 @@
 //! A look at a setup: what it has and what is seldom meant in it, or why it opens no bridge, and where it is at fault.
 ghost use Rattle.std.specs.Prelude.{◌≡◌, ◌+◌, ◌≤◌, [], ◌++◌, length, IfOk};
 ghost use Rattle.tsn_program.specs.Checking.{count_of, counted, summary, told};
-ghost use Rattle.tsn_program.specs.Program.{ServesCheck, ShowsSummary, TellsFault, written};
-ghost use Rattle.tsn_replies.specs.declared.text.TheConstants.{CAPACITY};
+ghost use Rattle.tsn_program.specs.Program.{ServesCheck, ShowsSummary, TellsFault};
+ghost use Rattle.tsn_failures.specs.Output.{written};
+ghost use Rattle.tsn_encoding.specs.declared.text.TheConstants.{CAPACITY};
 
-use crate::failures::Failure;
-use crate::program::{fail, show, status_of, tell};
 use std::alloc::{AllocError, Global};
 use tsn_bridge::bridge::Bridge;
 use tsn_bytes::{ByteOut, Fault};
+use tsn_encoding::ShortText;
+use tsn_failures::{Failure, fail, show, status_of, tell};
+use tsn_initial::bridge_of;
 use tsn_remarks::remarks;
-use tsn_replies::ShortText;
-use tsn_setup::bridge_of;
 use tsn_types::keys::Kind;
 use tsn_types::refusals::Refusal;
 use tsn_where::fault_line;

@@ -2,14 +2,13 @@
 ghost use Rattle.std.specs.Prelude.{◌≡◌, ◌≤◌, ◌++◌, ℕ, List, [], Some, length, option_map};
 ghost use Rattle.tsn_serve.specs.Outcomes.{moment};
 ghost use Rattle.tsn_program.specs.Lines.{BreaksLooking, ChecksLines, IsTold, LooksAt, WhyNot, cause_text};
-ghost use Rattle.tsn_program.specs.Program.{written};
+ghost use Rattle.tsn_failures.specs.Output.{written};
 
-use crate::failures::Failure;
-use crate::program::fail;
 use std::alloc::Global;
 use std::marker::Model;
 use tsn_bytes::{ByteIn, ByteOut, Fault, put_all};
-use tsn_replies::ShortText;
+use tsn_encoding::ShortText;
+use tsn_failures::{Failure, fail};
 use tsn_serve::{Ended, Responder, answer_lines, read_line};
 use tsn_types::refusals::Refusal;
 use tsn_where::command_spot;
@@ -46,7 +45,7 @@ fn cause_of(alloc: Global, line: Option<&[u8]>) -> Option<Refusal>
 }
 
 // Puts which line can't be asked, and why, into an empty text.
-#[tactic(auto, using(tsn_replies::proofs::Names::name_short))]
+#[tactic(auto, using(tsn_encoding::proofs::Names::name_short))]
 fn push_cause(text: &mut ShortText, number: u64, why: &Refusal)
     requires { text.old ≡ [] }
     ensures text { text.new ≡ cause_text number why.now }

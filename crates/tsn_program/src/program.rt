@@ -1,61 +1,19 @@
 //! The program, from what its words ask for, its setup's text, its input and two outputs to its status.
-ghost use Rattle.std.specs.Prelude.{◌≡◌, [], true, OnOk, IfErr, OnErr, Ok};
-ghost use Rattle.std.specs.Io.KnownBytes.{Appends};
-ghost use Rattle.tsn_bytes.specs.declared.bytes.Fault.TheVariants.{Write};
+ghost use Rattle.std.specs.Prelude.{Ok};
 ghost use Rattle.tsn_serve.specs.Outcomes.{moment};
-ghost use Rattle.tsn_program.specs.Failures.{failure_line};
-ghost use Rattle.tsn_setup.specs.Opening.{IsNew};
-ghost use Rattle.tsn_program.specs.Program.{IsAlone, IsFront, PrintsFrom, PrintsStates, RefusesWords, Reports, Serves, ServesScript, ServesStates, ServesText, Tells, written};
-ghost use Rattle.tsn_program.specs.declared.failures.Failure.TheVariants as failures;
+ghost use Rattle.tsn_initial.specs.Opening.{IsNew};
+ghost use Rattle.tsn_program.specs.Program.{IsAlone, PrintsFrom, PrintsStates, RefusesWords, Serves, ServesScript, ServesStates, ServesText};
+ghost use Rattle.tsn_failures.specs.Output.{written};
 
 use crate::checking::check_setup;
-use crate::failures::{Failure, failure_line};
 use crate::script::answer_script;
 use crate::states::{enable_at, first_instant, listed_port, write_states};
 use std::alloc::Global;
 use tsn_bridge::bridge::Bridge;
-use tsn_bytes::{ByteIn, ByteOut, Fault, put_all};
-use tsn_setup::bridge_of;
+use tsn_bytes::{ByteIn, ByteOut, Fault};
+use tsn_failures::{Failure, show, status_of, tell};
+use tsn_initial::bridge_of;
 use tsn_words::{Asked, Listing};
-
-// Writes the text and hands it on.
-pub(crate) fn show<W: ByteOut>(writer: &mut W, text: &[u8]) -> Result<(), Failure>
-    ensures ok { OnOk result (Appends (W.taken writer.old) (W.taken writer.new) text.now
-        × (W.pending writer.new ≡ [])) }
-    ensures fault { IfErr result (λ failure. failure ≡ failures.Fault Write) }
-    ensures failed { OnErr result (W.has_failed writer.new ≡ true) }
-    ensures cut { OnErr result (IsFront (W.taken writer.old) (W.taken writer.new) text.now) }
-{
-    put_all(writer, text).map_err(Failure::Fault)?;
-    writer.flush().map_err(|_| Failure::Fault(Fault::Write))
-}
-
-// Writes the text where it can. Nothing is left to do where it can't.
-pub(crate) fn tell<W: ByteOut>(errors: &mut W, text: &[u8])
-    ensures { Tells (written W.taken W.pending W.has_failed errors.old errors.new) text.now }
-{
-    let _ = show(errors, text);
-}
-
-/// Tells of a failure, and gives its status, 1.
-pub fn fail<W: ByteOut>(errors: &mut W, failure: Failure) -> u8
-    ensures status { result ≡ 1 }
-    ensures line { Tells (written W.taken W.pending W.has_failed errors.old errors.new) (failure_line failure) }
-{
-    tell(errors, failure_line(&failure).as_slice());
-    1
-}
-
-// The status of a run that ended so, of which a failure is told.
-pub(crate) fn status_of<W: ByteOut>(errors: &mut W, outcome: Result<(), Failure>) -> u8
-    ensures { Reports outcome result
-        (written W.taken W.pending W.has_failed errors.old errors.new) }
-{
-    match outcome {
-        Ok(()) => 0,
-        Err(failure) => fail(errors, failure),
-    }
-}
 
 // Prints the states of a port of the bridge, and hands them on.
 fn list_states<W: ByteOut>(

@@ -3,12 +3,12 @@ ghost use Rattle.std.specs.Prelude.{◌≡◌, ℕ, IfErr, Ok};
 ghost use Rattle.tsn_serve.specs.Outcomes.{moment};
 ghost use Rattle.tsn_program.specs.Program.{AnswersFrom, AnswersScript};
 
-use crate::failures::Failure;
 use std::alloc::Global;
 use tsn_bridge::bridge::Bridge;
 use tsn_bytes::{ByteIn, ByteOut};
+use tsn_failures::Failure;
+use tsn_initial::bridge_of;
 use tsn_serve::run_script;
-use tsn_setup::bridge_of;
 
 // Answers each line of the reader on the writer, from this bridge.
 fn answer_from<R: ByteIn, W: ByteOut>(

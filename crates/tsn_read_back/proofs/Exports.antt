@@ -2,7 +2,7 @@
 use Rattle.std.proofs.Common.{◌≡◌, ℕ, nat_le, List, length, Bool, true, false, cond, Result, Ok, Err, leb-true, refl, subst}
 use Rattle.tsn_types.specs.declared.refusals.Refusal.{Refusal}
 use Rattle.tsn_types.specs.declared.refusals.Refusal.TheVariants.{TooLong}
-use Rattle.tsn_bridge.specs.declared.bridge.Setup.{Setup}
+use Rattle.tsn_config.specs.declared.setup.Setup.{Setup}
 use Rattle.tsn_export.specs.Text.{longest_setup, named, setup_text}
 use Rattle.tsn_setup.specs.Setups.{setup_of}
 use Rattle.tsn_export.proofs.Named.{named_by_kinds}

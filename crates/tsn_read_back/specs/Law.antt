@@ -3,7 +3,7 @@ use Rattle.std.specs.Prelude.{◌≡◌, ℕ, ◌≤◌, List, length, None, Ok}
 use Rattle.tsn_types.specs.declared.limits.Limits.{Limits}
 use Rattle.tsn_edit.specs.Configuration.{Configuration, IsWellKept}
 use Rattle.tsn_config.specs.Opening.{opening, opening_refusal}
-use Rattle.tsn_bridge.specs.declared.bridge.Setup.{Setup}
+use Rattle.tsn_config.specs.declared.setup.Setup.{Setup}
 use Rattle.tsn_export.specs.Text.{exported, named, setup_text}
 use Rattle.tsn_setup.specs.Setups.{longest_setup, setup_of}
 

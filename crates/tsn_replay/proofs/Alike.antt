@@ -3,16 +3,16 @@ use Rattle.std.proofs.Common.{◌≡◌, ℕ, ◌≤◌, ◌+◌, refl, sym, ◌
 use Rattle.std.specs.Prelude.{⊤, IsTrue, option_map}
 use Rattle.tsn_types.specs.Refusals.{least}
 use Rattle.tsn_edit.specs.Parts.{inverse}
-use Rattle.tsn_journal.specs.declared.entries.What.TheVariants.{Acted}
-use Rattle.tsn_journal.specs.Entries.{Applied, no_room, redone, undone}
-use Rattle.tsn_journal.specs.Finding.{last_of, redo_of}
+use Rattle.tsn_entries.specs.declared.entries.What.TheVariants.{Acted}
+use Rattle.tsn_entries.specs.Entries.{Applied, no_room, redone, undone}
+use Rattle.tsn_entries.specs.Finding.{last_of, redo_of}
 use Rattle.tsn_chain.specs.Instances.{FrameData}
 use Rattle.tsn_undo.specs.Ledger.{enter}
 use Rattle.tsn_undo.specs.Redo.{redo_cause}
-use Rattle.tsn_bridge.specs.declared.command.Command.{Command}
-use Rattle.tsn_bridge.specs.declared.reply.Reply.{Reply}
-use Rattle.tsn_bridge.specs.declared.reply.Reply.TheVariants.{EntryOf}
-use Rattle.tsn_bridge.specs.declared.reply.Reply.TheVariants as replies
+use Rattle.tsn_commands.specs.declared.command.Command.{Command}
+use Rattle.tsn_commands.specs.declared.reply.Reply.{Reply}
+use Rattle.tsn_commands.specs.declared.reply.Reply.TheVariants.{EntryOf}
+use Rattle.tsn_commands.specs.declared.reply.Reply.TheVariants as replies
 use Rattle.tsn_bridge.specs.Acts.{act_change, act_rule, acted_state, instant}
 use Rattle.tsn_bridge.specs.Edits.{changed_state, edit_rule, next, redo_rule, undo_all_rule, undo_rule}
 use Rattle.tsn_bridge.specs.Families.{Acting, Counting, Editing, Family, Framing, Greeting, Looking, Redoing, Settling, Undoing, UndoingAll, family, seen_by_looks}

@@ -2,13 +2,14 @@
 use Rattle.std.proofs.Common.{◌≡◌, ◌≤◌, ℕ, Bool, true, false, cond, refl, sym, ◌∙◌, ap, subst, List, [], ◌∷◌, ◌++◌, append_assoc, Option, Some, None, inl, inr, length, append-nil}
 use Rattle.tsn_types.specs.declared.refusals.Refusal.{Refusal}
 use Rattle.tsn_types.specs.declared.refusals.Refusal.TheVariants.{TooLong}
-use Rattle.tsn_bridge.specs.declared.command.Ask.{Ask}
-use Rattle.tsn_bridge.specs.declared.command.Command.{Command}
-use Rattle.tsn_bridge.specs.declared.command.Command.TheVariants as commands
-use Rattle.tsn_bridge.specs.declared.reply.Reply.{Reply}
-use Rattle.tsn_bridge.specs.declared.reply.Reply.TheVariants.{Known, Refused}
+use Rattle.tsn_commands.specs.declared.command.Ask.{Ask}
+use Rattle.tsn_commands.specs.declared.command.Command.{Command}
+use Rattle.tsn_commands.specs.declared.command.Command.TheVariants as commands
+use Rattle.tsn_commands.specs.declared.reply.Reply.{Reply}
+use Rattle.tsn_commands.specs.declared.reply.Reply.TheVariants.{Known, Refused}
 use Rattle.tsn_bridge.specs.Acts.{act_rule, instant}
-use Rattle.tsn_bridge.specs.Histories.{Answered, Answers, CommandInRange}
+use Rattle.tsn_bridge.specs.Histories.{Answered, Answers}
+use Rattle.tsn_commands.specs.Commands.{CommandInRange}
 use Rattle.tsn_bridge.specs.Families.{Acting, Family, Greeting, family}
 use Rattle.tsn_bridge.specs.Machine.{Goes, Step}
 use Rattle.tsn_bridge.specs.Rule.{Allows, Rule, may_change}

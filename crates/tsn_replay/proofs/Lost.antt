@@ -10,17 +10,18 @@ use Rattle.tsn_types.specs.declared.keys.Key.TheVariants.{Port}
 use Rattle.tsn_types.specs.declared.limits.Limits.{Limits}
 use Rattle.tsn_types.specs.declared.records.Record.{Record}
 use Rattle.tsn_schedule.specs.Counters.{change_in, is_pending}
-use Rattle.tsn_journal.specs.declared.entries.Act.{Act as Asked}
-use Rattle.tsn_journal.specs.declared.entries.Act.TheVariants as asked
+use Rattle.tsn_entries.specs.declared.entries.Act.{Act as Asked}
+use Rattle.tsn_entries.specs.declared.entries.Act.TheVariants as asked
 use Rattle.tsn_chain.specs.declared.state.Counters.TheVariants as counters
 use Rattle.tsn_chain.specs.Counters.{list_counters}
 use Rattle.tsn_undo.specs.Ledger.{Ledger}
-use Rattle.tsn_bridge.specs.declared.command.Ask.{Ask}
-use Rattle.tsn_bridge.specs.declared.command.Command.{Command}
-use Rattle.tsn_bridge.specs.declared.reply.Reply.TheVariants.{Acted}
+use Rattle.tsn_commands.specs.declared.command.Ask.{Ask}
+use Rattle.tsn_commands.specs.declared.command.Command.{Command}
+use Rattle.tsn_commands.specs.declared.reply.Reply.TheVariants.{Acted}
 use Rattle.tsn_bridge.specs.Acts.{act_rule}
 use Rattle.tsn_bridge.specs.Beginning.{Opens, begun}
-use Rattle.tsn_bridge.specs.Histories.{AreInRange, Answered, CommandInRange}
+use Rattle.tsn_bridge.specs.Histories.{AreInRange, Answered}
+use Rattle.tsn_commands.specs.Commands.{CommandInRange, act_command}
 use Rattle.tsn_bridge.specs.Later.{IsWhole}
 use Rattle.tsn_bridge.specs.Looking.{counted_at}
 use Rattle.tsn_bridge.specs.Objects.{port_at}
@@ -32,7 +33,6 @@ use Rattle.tsn_replay.specs.Recording.{AreRecorded, all_recorded, instant_told, 
 use Rattle.tsn_replay.specs.Replaying.{Comes, LeadsBack, Turn}
 use Rattle.tsn_replay.proofs.Recorded.{AHello, AnAct, Itself, KeptAs, kept_as, told_at}
 use Rattle.tsn_replay.proofs.LeadingBack.{AreWithin, itself, reaches}
-use Rattle.tsn_bridge.specs.Families.{act_command}
 
 -- ---- acts before a time that frames had moved
 

@@ -3,21 +3,22 @@ use Rattle.std.proofs.Common.{◌≡◌, ℕ, Bool, true, false, ◌≤◌, ◌+
 use Rattle.std.specs.Prelude.{◌⊎◌, option_map}
 use Rattle.tsn_types.specs.declared.keys.Key.{Key}
 use Rattle.tsn_edit.proofs.KeyFacts.{by_option}
-use Rattle.tsn_journal.specs.declared.entries.Act.{Act as Asked}
-use Rattle.tsn_journal.specs.declared.entries.Act.TheVariants as asked
-use Rattle.tsn_journal.specs.declared.entries.What.TheVariants.{Acted}
-use Rattle.tsn_journal.specs.Entries.{no_room}
+use Rattle.tsn_entries.specs.declared.entries.Act.{Act as Asked}
+use Rattle.tsn_entries.specs.declared.entries.Act.TheVariants as asked
+use Rattle.tsn_entries.specs.declared.entries.What.TheVariants.{Acted}
+use Rattle.tsn_entries.specs.Entries.{no_room}
 use Rattle.tsn_chain.specs.declared.frame.Verdict.{Verdict}
 use Rattle.tsn_chain.specs.Frames.{framed}
 use Rattle.tsn_chain.specs.Instances.{FrameData}
 use Rattle.tsn_undo.specs.Ledger.{enter, present}
-use Rattle.tsn_bridge.specs.declared.command.Ask.{Ask}
-use Rattle.tsn_bridge.specs.declared.command.Command.{Command}
-use Rattle.tsn_bridge.specs.declared.command.Command.TheVariants as commands
-use Rattle.tsn_bridge.specs.declared.reply.Reply.{Reply}
-use Rattle.tsn_bridge.specs.declared.reply.Reply.TheVariants as replies
+use Rattle.tsn_commands.specs.declared.command.Ask.{Ask}
+use Rattle.tsn_commands.specs.declared.command.Command.{Command}
+use Rattle.tsn_commands.specs.declared.command.Command.TheVariants as commands
+use Rattle.tsn_commands.specs.declared.reply.Reply.{Reply}
+use Rattle.tsn_commands.specs.declared.reply.Reply.TheVariants as replies
 use Rattle.tsn_bridge.specs.Acts.{act_causes, act_change, act_rule, instant, list_causes}
-use Rattle.tsn_bridge.specs.Families.{Acting, Counting, Family, Framing, Greeting, Looking, family, seen_by_looks, act_command}
+use Rattle.tsn_bridge.specs.Families.{Acting, Counting, Family, Framing, Greeting, Looking, family, seen_by_looks}
+use Rattle.tsn_commands.specs.Commands.{act_command}
 use Rattle.tsn_bridge.specs.Frames.{acts_of_gates, frame_rule, framed_state}
 use Rattle.tsn_bridge.specs.Histories.{Answered, Answers}
 use Rattle.tsn_bridge.specs.Machine.{Goes, Step}

@@ -3,8 +3,8 @@ use Rattle.std.proofs.Common.{◌≡◌, ℕ, refl, ◌∙◌, ap, subst, List, 
 use Rattle.std.specs.List.{cons_option}
 use Rattle.std.proofs.lemmas.List.{append_cancel_left}
 use Rattle.tsn_types.specs.declared.refusals.Refusal.TheVariants.{Memory, TooLong}
-use Rattle.tsn_bridge.specs.declared.command.Ask.{Ask}
-use Rattle.tsn_bridge.specs.declared.reply.Reply.{Reply}
+use Rattle.tsn_commands.specs.declared.command.Ask.{Ask}
+use Rattle.tsn_commands.specs.declared.reply.Reply.{Reply}
 use Rattle.tsn_bridge.specs.Histories.{AreInRange, Answered, Answers, Leads}
 use Rattle.tsn_bridge.specs.State.{State}
 use Rattle.tsn_replay.specs.Handling.{Handles}

@@ -2,9 +2,9 @@
 use Rattle.std.specs.Prelude.{◌≡◌, ◌⊎◌, ◌<◌, ◌≤◌, ◌++◌, ◌∷◌, [], ℕ, List, None, Some, length, if◌then◌else◌}
 use Rattle.tsn_types.specs.declared.refusals.Refusal.{Refusal}
 use Rattle.tsn_types.specs.declared.refusals.Refusal.TheVariants.{TooLong}
-use Rattle.tsn_bridge.specs.declared.command.Ask.{Ask}
-use Rattle.tsn_bridge.specs.declared.reply.Reply.{Reply}
-use Rattle.tsn_bridge.specs.declared.reply.Reply.TheVariants.{Refused}
+use Rattle.tsn_commands.specs.declared.command.Ask.{Ask}
+use Rattle.tsn_commands.specs.declared.reply.Reply.{Reply}
+use Rattle.tsn_commands.specs.declared.reply.Reply.TheVariants.{Refused}
 use Rattle.tsn_bridge.specs.Histories.{Answers}
 use Rattle.tsn_bridge.specs.Rule.{may_change}
 use Rattle.tsn_bridge.specs.State.{State}

@@ -2,9 +2,10 @@
 use Rattle.std.specs.Coded.{Coded, code_by, coded×, coded_list, coded_ℕ}
 use Rattle.std.specs.Prelude.{refl, ◌≡◌, ◌≢◌, ◌≤◌, ℕ, List, [], ◌∷◌, ◌++◌, Option, Some, None, length}
 use Rattle.std.specs.List.{All}
-use Rattle.tsn_bridge.specs.declared.command.Ask.{Ask}
-use Rattle.tsn_bridge.specs.declared.reply.Reply.{Reply}
-use Rattle.tsn_bridge.specs.Histories.{Answered, CommandInRange}
+use Rattle.tsn_commands.specs.declared.command.Ask.{Ask}
+use Rattle.tsn_commands.specs.declared.reply.Reply.{Reply}
+use Rattle.tsn_bridge.specs.Histories.{Answered}
+use Rattle.tsn_commands.specs.Commands.{CommandInRange}
 use Rattle.tsn_bridge.specs.State.{State, state_code}
 use Rattle.tsn_replay.specs.Handling.{Handles}
 use Rattle.tsn_replay.specs.Recording.{recorded}

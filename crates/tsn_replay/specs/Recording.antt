@@ -1,13 +1,14 @@
 -- What is recorded of what sessions asked and were answered: each accepted command that changes what lasts.
 use Rattle.std.specs.Prelude.{◌≡◌, ℕ, Bool, true, false, List, Option, Some, None, map, option_map, if◌then◌else◌}
 use Rattle.std.specs.List.{AllByRecursion, filter_map}
-use Rattle.tsn_bridge.specs.declared.command.Ask.{Ask}
-use Rattle.tsn_bridge.specs.declared.command.Command.{Command}
-use Rattle.tsn_bridge.specs.declared.command.Command.TheVariants as commands
-use Rattle.tsn_bridge.specs.declared.reply.Reply.{Reply}
-use Rattle.tsn_bridge.specs.declared.reply.Reply.TheVariants.{Acted, Refused}
+use Rattle.tsn_commands.specs.declared.command.Ask.{Ask}
+use Rattle.tsn_commands.specs.declared.command.Command.{Command}
+use Rattle.tsn_commands.specs.declared.command.Command.TheVariants as commands
+use Rattle.tsn_commands.specs.declared.reply.Reply.{Reply}
+use Rattle.tsn_commands.specs.declared.reply.Reply.TheVariants.{Acted, Refused}
 use Rattle.tsn_bridge.specs.Acts.{instant}
-use Rattle.tsn_bridge.specs.Families.{Acting, Counting, Family, Framing, Greeting, Looking, family, act_command}
+use Rattle.tsn_bridge.specs.Families.{Acting, Counting, Family, Framing, Greeting, Looking, family}
+use Rattle.tsn_commands.specs.Commands.{act_command}
 use Rattle.tsn_bridge.specs.Histories.{Answered}
 use Rattle.tsn_bridge.specs.Rule.{may_change}
 use Rattle.tsn_bridge.specs.State.{State}

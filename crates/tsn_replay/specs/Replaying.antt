@@ -1,9 +1,9 @@
 -- The replay of recorded commands, and that it leads back.
 use Rattle.std.specs.Prelude.{◌≡◌, ◌⊎◌, true, List, [], ◌∷◌, ◌++◌}
 use Rattle.tsn_types.specs.declared.refusals.Refusal.TheVariants.{Memory}
-use Rattle.tsn_bridge.specs.declared.command.Ask.{Ask}
-use Rattle.tsn_bridge.specs.declared.reply.Reply.{Reply}
-use Rattle.tsn_bridge.specs.declared.reply.Reply.TheVariants.{Refused}
+use Rattle.tsn_commands.specs.declared.command.Ask.{Ask}
+use Rattle.tsn_commands.specs.declared.reply.Reply.{Reply}
+use Rattle.tsn_commands.specs.declared.reply.Reply.TheVariants.{Refused}
 use Rattle.tsn_bridge.specs.Histories.{Answered, Answers, Leads}
 use Rattle.tsn_bridge.specs.State.{State}
 use Rattle.tsn_replay.specs.Answering.{AnswerAlike}

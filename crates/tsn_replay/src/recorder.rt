@@ -16,13 +16,13 @@ use std::marker::{Model, PhantomData};
 use tsn_bridge::bridge::Bridge;
 use tsn_bridge::command::{Ask, Command};
 use tsn_bridge::reply::Reply;
-use tsn_desk::machine::Machine;
+use tsn_machine::machine::Machine;
 use tsn_types::numbers::Instant;
 use tsn_types::refusals::Refusal;
 
 /// How what is kept of a command is spelled, as a line.
 pub trait Spell {
-    ghost use Rattle.tsn_bridge.specs.declared.command.Ask.{Ask as AnyAsk};
+    ghost use Rattle.tsn_commands.specs.declared.command.Ask.{Ask as AnyAsk};
 
     /// How many bytes a line has at most, its line feed left out.
     const MOST: usize;
@@ -75,13 +75,6 @@ impl<S: Spell> Recorder<S> {
             text: Vec::new(alloc),
             spelling: PhantomData,
         }
-    }
-
-    /// The bridge.
-    pub fn bridge(&self) -> &Bridge
-        ensures { result.now ≡ self.now.bridge }
-    {
-        &self.bridge
     }
 
     /// What was recorded since the text was last taken away: a line for each recorded command, ended by a line feed.

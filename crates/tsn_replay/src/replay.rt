@@ -1,6 +1,6 @@
 //! The replay of recorded commands: a start steps the bridge of the setup by one after another.
 ghost use Rattle.std.specs.Prelude.{◌≡◌, ◌∷◌, [], IfErr, OnErr, OnOk};
-ghost use Rattle.tsn_bridge.specs.declared.reply.Reply.TheVariants.{Refused};
+ghost use Rattle.tsn_commands.specs.declared.reply.Reply.TheVariants.{Refused};
 ghost use Rattle.tsn_bridge.specs.Histories.{Answers};
 ghost use Rattle.tsn_bridge.specs.Reached.{IsReached};
 ghost use Rattle.tsn_replay.specs.Replaying.{Replays};

@@ -1,11 +1,1 @@
-pub mod Bytes
-pub mod Grown
 pub mod Lines
-pub mod Names
-pub mod Numerals
-pub mod OnLiterals
-pub mod Pieces
-pub mod Escapes
-pub mod Setups
-pub mod Telling
-pub mod Written

@@ -6,7 +6,7 @@ use Rattle.serde_json.specs.Written.{compact_text}
 use Rattle.tsn_chain.specs.declared.data.FilterData.{FilterData}
 use Rattle.tsn_chain.specs.declared.frame.DropCause.{DropCause}
 use Rattle.tsn_chain.specs.declared.state.ListCounters.{ListCounters}
-use Rattle.tsn_replies.proofs.Grown.{line_of}
+use Rattle.tsn_encoding.proofs.Grown.{line_of}
 use Rattle.tsn_records.specs.Shown.{or_null}
 use Rattle.tsn_replies.specs.Running.{cause_name, pass_data, drop_data, port_counters_data, filter_counters_data, gate_counters_data}
 

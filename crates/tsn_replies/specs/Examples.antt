@@ -1,14 +1,14 @@
 -- Worked examples: the line round a shown record, entries and counters with their text.
 use Rattle.std.specs.Prelude.{ℕ, List, [], ◌∷◌, ◌++◌, true, false, Some, None, codes}
-use Rattle.tsn_bridge.specs.declared.reply.Reply.TheVariants as replies
+use Rattle.tsn_commands.specs.declared.reply.Reply.TheVariants as replies
 use Rattle.tsn_chain.specs.declared.data.FilterData.{FilterData}
 use Rattle.tsn_chain.specs.declared.frame.DropCause.{DropCause}
 use Rattle.tsn_chain.specs.declared.frame.Verdict.TheVariants as verdicts
 use Rattle.tsn_chain.specs.declared.state.ListCounters.{ListCounters}
 use Rattle.tsn_edit.specs.Parts.{Change, inverse}
-use Rattle.tsn_journal.specs.declared.entries.Act.TheVariants.{Apply}
-use Rattle.tsn_journal.specs.declared.entries.Entry.{Entry}
-use Rattle.tsn_journal.specs.declared.entries.What.TheVariants.{Made, Undone, Redone, Acted, Settled}
+use Rattle.tsn_entries.specs.declared.entries.Act.TheVariants.{Apply}
+use Rattle.tsn_entries.specs.declared.entries.Entry.{Entry}
+use Rattle.tsn_entries.specs.declared.entries.What.TheVariants.{Made, Undone, Redone, Acted, Settled}
 use Rattle.tsn_replies.specs.Replies.{reply_text}
 use Rattle.tsn_types.specs.Examples.{a_filter, a_gate, a_meter}
 use Rattle.tsn_types.specs.declared.keys.Key.TheVariants as keys

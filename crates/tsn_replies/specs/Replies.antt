@@ -1,14 +1,15 @@
 -- The text of a reply: compact JSON with its members in ascending order of their names, and a line feed.
 use Rattle.std.specs.Prelude.{ℕ, ◌++◌, List, [], codes, decimal}
 use Rattle.serde_json.specs.Written.{compact_text}
-use Rattle.tsn_bridge.specs.declared.reply.Reply.{Reply}
-use Rattle.tsn_bridge.specs.declared.reply.Reply.TheVariants as replies
+use Rattle.tsn_commands.specs.declared.reply.Reply.{Reply}
+use Rattle.tsn_commands.specs.declared.reply.Reply.TheVariants as replies
 use Rattle.tsn_types.specs.declared.refusals.Refusal.{Refusal}
 use Rattle.tsn_types.specs.declared.refusals.Refusal.TheVariants as refusals
 use Rattle.tsn_types.specs.Refusals.{number_of, name_of, field_name}
 use Rattle.tsn_records.specs.Keys.{key_text}
 use Rattle.tsn_replies.specs.Running.{act_data, verdict_data, state_data, counters_data}
-use Rattle.tsn_replies.specs.Told.{shown_data, ids_data, entries_data, sessions_data, setup_data}
+use Rattle.tsn_encoding.specs.Told.{entries_data, sessions_data}
+use Rattle.tsn_encoding.specs.Shown.{shown_data, ids_data, setup_data}
 
 -- a member that is a number, with a comma behind it
 abbrev pub number_member : List ℕ → ℕ → List ℕ

@@ -1,7 +1,7 @@
 //! What the definitions of this crate say of worked examples, so that a definition and a body that are wrong alike
 //! are found out. Each function does nothing; its contract is what is proved.
 ghost use Rattle.std.specs.Prelude.{◌≡◌, [], ◌∷◌, true, false, Some, None, codes};
-ghost use Rattle.tsn_bridge.specs.declared.reply.Reply.TheVariants as replies;
+ghost use Rattle.tsn_commands.specs.declared.reply.Reply.TheVariants as replies;
 ghost use Rattle.tsn_chain.specs.declared.frame.DropCause.TheVariants as causes;
 ghost use Rattle.tsn_chain.specs.declared.frame.Verdict.TheVariants as verdicts;
 ghost use Rattle.tsn_chain.specs.declared.state.Counters.TheVariants as counters;
@@ -16,7 +16,7 @@ ghost use Rattle.tsn_types.specs.declared.refusals.Field.TheVariants as fields;
 ghost use Rattle.tsn_types.specs.declared.refusals.Refusal.TheVariants as refusals;
 
 /// The text of replies.
-#[tactic(auto, unfolding(crate::proofs::OnLiterals::replies_on_literals))]
+#[tactic(auto, unfolding(tsn_encoding::proofs::OnLiterals::replies_on_literals))]
 pub fn replies_are_spelled()
     ensures session { reply_text (replies.Session 1) ≡ codes "{\"session\":1}\n" }
     ensures entry { reply_text (replies.Entry 3) ≡ codes "{\"entry\":3}\n" }
@@ -62,7 +62,7 @@ pub fn replies_are_spelled()
 {}
 
 /// The text of records, of numbers of instances, of sessions and of a setup.
-#[tactic(auto, unfolding(crate::proofs::OnLiterals::replies_on_literals))]
+#[tactic(auto, unfolding(tsn_encoding::proofs::OnLiterals::replies_on_literals))]
 pub fn records_are_shown()
     ensures port { reply_text (replies.Shown (keys.Port 1) (records.Port a_port))
         ≡ shown_line (codes "port 1") port_text }
@@ -82,7 +82,7 @@ pub fn records_are_shown()
 {}
 
 /// The text of the journal's entries.
-#[tactic(auto, unfolding(crate::proofs::OnLiterals::replies_on_literals))]
+#[tactic(auto, unfolding(tsn_encoding::proofs::OnLiterals::replies_on_literals))]
 pub fn entries_are_told()
     ensures undone { reply_text (replies.Entries a_removal_undone) ≡ removal_undone_text }
     ensures redone { reply_text (replies.Entries a_removal_redone) ≡ removal_redone_text }

@@ -6,21 +6,20 @@ ghost use Rattle.std.specs.Prelude.{◌≡◌, ◌+◌, ◌≤◌, ◌++◌, [],
 ghost use Rattle.std.specs.Io.KnownBytes.{Appends};
 ghost use Rattle.tsn_types.specs.Lent.{lent_record};
 ghost use Rattle.tsn_types.specs.Refusals.{name_of, field_name};
-ghost use Rattle.tsn_journal.specs.Marks.{entries_of};
+ghost use Rattle.tsn_entries.specs.Marks.{entries_of};
 ghost use Rattle.tsn_bytes.specs.Bytes.{IsCut};
 ghost use Rattle.tsn_replies.specs.Replies.{number_member, text_member, members_of, behind_of, refusal_text, reply_text};
 ghost use Rattle.tsn_records.specs.Keys.{key_text};
 ghost use Rattle.tsn_bytes.specs.declared.bytes.Fault.TheVariants.{Write};
 
 use crate::running::{push_act, push_counters, push_state, push_verdict};
-use crate::sessions::write_sessions;
-use crate::setup::write_setup;
-use crate::shown::{lent, push_key, push_number, write_ids, write_lent_record};
-use crate::text::{CAPACITY, ShortText};
-use crate::told::{write_entries, write_told};
-use tsn_bridge::reply::Reply;
 use tsn_bytes::{ByteOut, Fault, put_all};
-use tsn_journal::entries::MarkedEntry;
+use tsn_commands::reply::Reply;
+use tsn_encoding::{
+    CAPACITY, ShortText, lent, push_key, push_number, write_entries, write_ids, write_lent_record,
+    write_sessions, write_setup, write_told,
+};
+use tsn_entries::entries::MarkedEntry;
 use tsn_types::keys::Key;
 use tsn_types::records::RecordRef;
 use tsn_types::refusals::{Field, Refusal};
@@ -51,7 +50,7 @@ fn push_key_member(text: &mut ShortText, name: &str, key: Key)
     text.push("\",");
 }
 
-#[tactic(auto, using(crate::proofs::Names::field_name_short))]
+#[tactic(auto, using(tsn_encoding::proofs::Names::field_name_short))]
 fn push_field_member(text: &mut ShortText, field: Field)
     requires { length text.old + 22 ≤ CAPACITY }
     ensures text { text.new ≡ text.old ++ text_member (codes "field") (field_name field) }
@@ -104,7 +103,7 @@ fn push_behind(text: &mut ShortText, refusal: &Refusal)
     }
 }
 
-#[tactic(auto, using(crate::proofs::Names::name_short))]
+#[tactic(auto, using(tsn_encoding::proofs::Names::name_short))]
 fn push_refusal(text: &mut ShortText, refusal: &Refusal)
     requires { text.old ≡ [] }
     ensures { text.new ≡ refusal_text refusal.now }

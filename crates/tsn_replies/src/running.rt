@@ -7,11 +7,10 @@ ghost use Rattle.tsn_chain.specs.declared.state.Counters.TheVariants as counters
 ghost use Rattle.tsn_chain.specs.declared.state.State.TheVariants as states;
 ghost use Rattle.tsn_replies.specs.Running.{act_data, cause_name, pass_data, drop_data, verdict_data, state_data, port_counters_data, filter_counters_data, gate_counters_data, counters_data};
 
-use crate::shown::{plain_priority, push_flag, push_number, push_or_null};
-use crate::text::ShortText;
 use tsn_chain::data::FilterData;
 use tsn_chain::frame::{DropCause, Verdict};
 use tsn_chain::state::{Counters, ListCounters, State};
+use tsn_encoding::{ShortText, plain_priority, push_flag, push_number, push_or_null};
 use tsn_types::numbers::{FilterId, Instant, Priority};
 
 /// Puts the line of an act into an empty text.

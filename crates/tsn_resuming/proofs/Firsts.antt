@@ -12,7 +12,7 @@ use Rattle.serde_json.proofs.OnLiterals.{serde_json_on_literals}
 use Rattle.tsn_setup.specs.Setups.{longest_setup}
 use Rattle.tsn_recorded.specs.Text.{longest_first_command}
 use Rattle.tsn_wire.proofs.Backs.{IsPlain, read_back}
-use Rattle.tsn_replies.proofs.Escapes.{byte_within}
+use Rattle.tsn_encoding.proofs.Escapes.{byte_within}
 use Rattle.tsn_spelling.proofs.Feeds.{IsNoFeed, quoted_no_feed}
 use Rattle.tsn_wire.proofs.Visible.{no_feed}
 use Rattle.tsn_wire.specs.Reading.{data_of}

@@ -2,8 +2,8 @@
 use Rattle.std.proofs.Common.{◌≡◌, ℕ, List, [], ◌∷◌, ◌++◌, map, Option, Some, None, Result, Ok, Err, inl, inr, refl, sym, ap, ◌∙◌, subst, append_assoc}
 use Rattle.std.specs.Io.KnownBytes.{Consumes}
 use Rattle.tsn_types.specs.declared.refusals.Refusal.{Refusal}
-use Rattle.tsn_bridge.specs.declared.command.Ask.{Ask}
-use Rattle.tsn_bridge.specs.declared.reply.Reply.TheVariants.{Refused}
+use Rattle.tsn_commands.specs.declared.command.Ask.{Ask}
+use Rattle.tsn_commands.specs.declared.reply.Reply.TheVariants.{Refused}
 use Rattle.tsn_bridge.specs.Histories.{Answers}
 use Rattle.tsn_bridge.specs.State.{State}
 use Rattle.tsn_recorded.specs.Text.{Recorded, file_of}
@@ -17,7 +17,7 @@ use Rattle.tsn_spelling.specs.Line.{line_text}
 use Rattle.tsn_spelling.proofs.Holding.{reads_back}
 use Rattle.tsn_wire.specs.Reading.{line_of}
 use Rattle.tsn_resuming.specs.First.{setup_in}
-use Rattle.tsn_setup.specs.Opening.{opened}
+use Rattle.tsn_initial.specs.Opening.{opened}
 use Rattle.tsn_resuming.specs.Joining.{AreAskable, WasWritten, command_of}
 use Rattle.tsn_resuming.specs.Resuming.{IsRefusedAt}
 use Rattle.tsn_resuming.specs.Standing.{IsRefused, asked, read_as}

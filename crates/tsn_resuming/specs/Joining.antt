@@ -1,7 +1,7 @@
 -- A file that a recorder wrote behind a first command.
 use Rattle.std.specs.Prelude.{◌≡◌, ℕ, List, [], ◌∷◌, map, Option, Some, Ok}
 use Rattle.std.specs.List.{AllByRecursion}
-use Rattle.tsn_bridge.specs.declared.command.Ask.{Ask}
+use Rattle.tsn_commands.specs.declared.command.Ask.{Ask}
 use Rattle.tsn_bridge.specs.Histories.{Answered}
 use Rattle.tsn_bridge.specs.State.{State}
 use Rattle.tsn_recorded.specs.Text.{Recorded}
@@ -12,7 +12,7 @@ use Rattle.tsn_replay.specs.Replaying.{Life, Lives}
 use Rattle.tsn_spelling.specs.Line.{line_text}
 use Rattle.tsn_wire.specs.Values.{MayBeAsked}
 use Rattle.tsn_resuming.specs.First.{setup_in}
-use Rattle.tsn_setup.specs.Opening.{opened}
+use Rattle.tsn_initial.specs.Opening.{opened}
 
 abbrev pub AreAskable : List Ask → Type 0
 AreAskable asks = AllByRecursion (λ ask. MayBeAsked ask.session ask.command) asks

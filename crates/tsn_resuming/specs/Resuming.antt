@@ -8,7 +8,7 @@ use Rattle.tsn_recorded.specs.Text.{Recorded, AreRecordedAfter, file_of, last_di
 use Rattle.tsn_recorded.specs.Reading.{IsEnd, Reads}
 use Rattle.tsn_recorded.specs.Reader.{Standing}
 use Rattle.tsn_resuming.specs.First.{setup_in}
-use Rattle.tsn_setup.specs.Opening.{opened}
+use Rattle.tsn_initial.specs.Opening.{opened}
 use Rattle.tsn_resuming.specs.Standing.{IsRefused, IsUnderWay, LeadTo}
 use Rattle.tsn_resuming.specs.declared.first.NoSetup.TheVariants as none
 use Rattle.tsn_resuming.specs.declared.resuming.Resumed.{Resumed}

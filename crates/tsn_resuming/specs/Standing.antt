@@ -2,8 +2,8 @@
 use Rattle.std.specs.Prelude.{◌≡◌, ◌⊎◌, ℕ, List, [], ◌∷◌, map, Option, Result, Ok, Err, drop}
 use Rattle.std.specs.Io.KnownBytes.{Consumes, IsAtEnd}
 use Rattle.tsn_types.specs.declared.refusals.Refusal.{Refusal}
-use Rattle.tsn_bridge.specs.declared.command.Ask.{Ask}
-use Rattle.tsn_bridge.specs.declared.reply.Reply.TheVariants.{Refused}
+use Rattle.tsn_commands.specs.declared.command.Ask.{Ask}
+use Rattle.tsn_commands.specs.declared.reply.Reply.TheVariants.{Refused}
 use Rattle.tsn_bridge.specs.Histories.{Answers}
 use Rattle.tsn_bridge.specs.State.{State}
 use Rattle.tsn_recorded.specs.Text.{Recorded}
@@ -12,7 +12,7 @@ use Rattle.tsn_recorded.specs.Reader.{HasGiven, Standing}
 use Rattle.tsn_replay.specs.Replaying.{Replays}
 use Rattle.tsn_wire.specs.Reading.{line_of}
 use Rattle.tsn_resuming.specs.First.{setup_in}
-use Rattle.tsn_setup.specs.Opening.{opened}
+use Rattle.tsn_initial.specs.Opening.{opened}
 
 -- what a command asks, or why it does not read as a command
 unfoldable pub asked : List ℕ → Result Ask Refusal

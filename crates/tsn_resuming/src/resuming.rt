@@ -15,9 +15,9 @@ use crate::watching::Watcher;
 use std::alloc::{AllocError, Global};
 use tsn_bridge::bridge::Bridge;
 use tsn_bytes::ByteIn;
+use tsn_initial::bridge_of;
 use tsn_recorded::{Chain, End, Reader};
 use tsn_replay::replay::replay;
-use tsn_setup::bridge_of;
 use tsn_types::refusals::Refusal;
 use tsn_wire::command_of;
 

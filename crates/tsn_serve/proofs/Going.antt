@@ -3,16 +3,16 @@ use Rattle.std.proofs.Common.{◌≡◌, inl, inr, ℕ, Bool, true, false, ◌++
 use Rattle.tsn_desk.specs.declared.desk.Desk.{Desk}
 use Rattle.tsn_desk.specs.declared.desk.Seat.{Seat}
 use Rattle.tsn_desk.specs.Desks.{IsSeatOf, HasTurned, number}
-use Rattle.tsn_desk.specs.History.{IsLegal, calls_by, call}
-use Rattle.tsn_desk.proofs.Begin.{begins_self, begins_trans}
+use Rattle.tsn_machine.specs.History.{IsLegal, calls_by, call}
+use Rattle.tsn_machine.proofs.Begin.{begins_self, begins_trans}
 use Rattle.tsn_types.specs.declared.refusals.Refusal.{Refusal}
 use Rattle.tsn_bytes.specs.declared.bytes.Fault.{Fault}
 use Rattle.tsn_bytes.specs.declared.bytes.Fault.TheVariants.{Read, Write, Memory, Exhausted}
 use Rattle.tsn_bridge.specs.State.{State}
 use Rattle.tsn_port.specs.Workers.{BridgeSeat, GoesOn}
 use Rattle.tsn_bridge.specs.Turns.{Turns}
-use Rattle.tsn_bridge.specs.declared.command.Ask.{Ask}
-use Rattle.tsn_bridge.specs.declared.reply.Reply.{Reply}
+use Rattle.tsn_commands.specs.declared.command.Ask.{Ask}
+use Rattle.tsn_commands.specs.declared.reply.Reply.{Reply}
 use Rattle.tsn_serve.specs.Lines.{short_line, last_line}
 use Rattle.tsn_serve.specs.Script.{Answering, Run, AllAnswered}
 use Rattle.tsn_serve.specs.Outcomes.{Moment, IsBroken, Outcome}

@@ -2,16 +2,16 @@
 use Rattle.std.proofs.Common.{◌≡◌, ◌∙◌, subst}
 use Rattle.tsn_desk.specs.declared.desk.Desk.{Desk}
 use Rattle.tsn_desk.specs.Desks.{seen}
-use Rattle.tsn_desk.specs.History.{Begins}
+use Rattle.tsn_machine.specs.History.{Begins}
 use Rattle.tsn_bridge.specs.State.{State}
-use Rattle.tsn_bridge.specs.declared.command.Ask.{Ask}
-use Rattle.tsn_bridge.specs.declared.reply.Reply.{Reply}
+use Rattle.tsn_commands.specs.declared.command.Ask.{Ask}
+use Rattle.tsn_commands.specs.declared.reply.Reply.{Reply}
 use Rattle.tsn_port.specs.declared.worker.PortWorker.{PortWorker}
 use Rattle.tsn_port.specs.Workers.{BridgeSeat, GoesOn, IsWorkerOf, last_seen, port_of}
 use Rattle.tsn_port.proofs.Working.{goes_both}
 use Rattle.tsn_serve.specs.declared.probing.Probe.{Probe}
 use Rattle.tsn_serve.specs.Probes.{IsProbed}
-use Rattle.tsn_desk.proofs.Begin.{begins_self}
+use Rattle.tsn_machine.proofs.Begin.{begins_self}
 
 pub started : (desk : Desk State Ask Reply) (probe : Probe) (seat : BridgeSeat) (worker : PortWorker) → GoesOn desk probe.seat seat
     → IsWorkerOf desk worker → port_of worker ≡ probe.port → last_seen worker ≡ seen seat → IsProbed desk probe (seat, worker)

@@ -4,11 +4,11 @@ use Rattle.tsn_types.specs.declared.refusals.Refusal.{Refusal}
 use Rattle.tsn_types.specs.declared.refusals.Refusal.TheVariants as refusals
 use Rattle.tsn_bytes.specs.declared.bytes.Fault.TheVariants.{Write}
 use Rattle.tsn_bridge.specs.State.{State}
-use Rattle.tsn_bridge.specs.declared.reply.Reply.{Reply}
-use Rattle.tsn_bridge.specs.declared.reply.Reply.TheVariants as replies
+use Rattle.tsn_commands.specs.declared.reply.Reply.{Reply}
+use Rattle.tsn_commands.specs.declared.reply.Reply.TheVariants as replies
 use Rattle.tsn_bridge.specs.Histories as machine
-use Rattle.tsn_bridge.specs.declared.command.Ask.{Ask}
-use Rattle.tsn_bridge.specs.declared.command.Command.{Command}
+use Rattle.tsn_commands.specs.declared.command.Ask.{Ask}
+use Rattle.tsn_commands.specs.declared.command.Command.{Command}
 use Rattle.tsn_wire.specs.Reading.{line_of}
 use Rattle.tsn_replies.specs.Replies.{reply_text}
 use Rattle.tsn_serve.specs.Script.{Answering, Breaking, IsFront}

@@ -2,15 +2,15 @@
 use Rattle.std.specs.Prelude.{◌≡◌, ◌≢◌, refl, ℕ, List, [], Option, Some, None}
 use Rattle.std.specs.Coded.{Coded, code_by, coded×, coded_ℕ, coded_list, coded_option}
 use Rattle.atomic_table.specs.Seated.{table_id_coded}
-use Rattle.tsn_desk.specs.declared.history.Entry.{Entry}
+use Rattle.tsn_machine.specs.declared.history.Entry.{Entry}
 use Rattle.tsn_desk.specs.declared.desk.Seat.{Seat}
 use Rattle.tsn_desk.specs.declared.desk.Desk.{Desk}
 use Rattle.tsn_desk.specs.Desks.{DeskId, first_of, IsSeatOf, id_of}
 use Rattle.tsn_bridge.specs.State.{State, state_code}
-use Rattle.tsn_bridge.specs.declared.command.Ask.{Ask}
-use Rattle.tsn_bridge.specs.declared.reply.Reply.{Reply}
-use Rattle.tsn_bridge.specs.contracts.command.Ask as ask_row
-use Rattle.tsn_bridge.specs.contracts.reply.Reply as reply_row
+use Rattle.tsn_commands.specs.declared.command.Ask.{Ask}
+use Rattle.tsn_commands.specs.declared.reply.Reply.{Reply}
+use Rattle.tsn_commands.specs.contracts.command.Ask as ask_row
+use Rattle.tsn_commands.specs.contracts.reply.Reply as reply_row
 use Rattle.tsn_serve.specs.Talk.{Caller, caller_of}
 
 -- a connection as a caller; while its seat is out in a turn nothing is asked of it

@@ -1,7 +1,7 @@
 -- Lines that are answered one behind the other: what was read of them ahead, and how much of the bytes in front they are.
 use Rattle.std.specs.Prelude.{◌≡◌, ℕ, ◌+◌, ◌≤◌, ◌++◌, List, [], ◌∷◌, length, drop, Option, Some, Result}
 use Rattle.tsn_types.specs.declared.refusals.Refusal.{Refusal}
-use Rattle.tsn_bridge.specs.declared.command.Ask.{Ask}
+use Rattle.tsn_commands.specs.declared.command.Ask.{Ask}
 use Rattle.tsn_bytes.specs.declared.bytes.Fault.{Fault}
 use Rattle.tsn_serve.specs.declared.lots.ReadLine.{ReadLine}
 use Rattle.tsn_serve.specs.Lines.{HasNoLineFeed, line_feed, longest_line}

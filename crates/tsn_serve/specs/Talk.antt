@@ -1,20 +1,20 @@
 -- What a connection does with its lines: each is answered by a call of its seat, or refused with no call.
 use Rattle.std.specs.Prelude.{◌≡◌, ◌⊎◌, ℕ, ◌≤◌, ◌^◌, List, [], ◌∷◌, ◌++◌, Option, Some, None, IfNone, Result, Ok, Err, ⊤}
-use Rattle.tsn_desk.specs.declared.history.Entry.{Entry}
+use Rattle.tsn_machine.specs.declared.history.Entry.{Entry}
 use Rattle.tsn_desk.specs.declared.desk.Seat.{Seat}
 use Rattle.tsn_desk.specs.declared.desk.Desk.{Desk}
-use Rattle.tsn_desk.specs.History.{Begins, IsLegal, calls_by, call}
+use Rattle.tsn_machine.specs.History.{Begins, IsLegal, calls_by, call}
 use Rattle.tsn_desk.specs.Desks.{seen, made, number, tickets, first_of, DeskId, id_of}
 use Rattle.tsn_types.specs.declared.refusals.Refusal.{Refusal}
 use Rattle.tsn_types.specs.declared.refusals.Refusal.TheVariants as refusals
 use Rattle.tsn_bytes.specs.declared.bytes.Fault.TheVariants.{Exhausted}
 use Rattle.tsn_bridge.specs.State.{State}
 use Rattle.tsn_bridge.specs.Turns.{Turns}
-use Rattle.tsn_bridge.specs.declared.command.Ask.{Ask}
-use Rattle.tsn_bridge.specs.declared.command.Command.{Command}
-use Rattle.tsn_bridge.specs.declared.command.Command.TheVariants as commands
-use Rattle.tsn_bridge.specs.declared.reply.Reply.{Reply}
-use Rattle.tsn_bridge.specs.declared.reply.Reply.TheVariants as replies
+use Rattle.tsn_commands.specs.declared.command.Ask.{Ask}
+use Rattle.tsn_commands.specs.declared.command.Command.{Command}
+use Rattle.tsn_commands.specs.declared.command.Command.TheVariants as commands
+use Rattle.tsn_commands.specs.declared.reply.Reply.{Reply}
+use Rattle.tsn_commands.specs.declared.reply.Reply.TheVariants as replies
 use Rattle.tsn_serve.specs.Script.{Answering, Breaking}
 use Rattle.tsn_serve.specs.Answers.{MayRead, Replies, SaysText, CutsText}
 

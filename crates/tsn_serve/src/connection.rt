@@ -3,7 +3,7 @@
 ghost use Rattle.std.specs.Prelude.{◌≡◌, ◌≢◌, ◌⊎◌, ◌^◌, ◌<◌, ◌≤◌, ◌↔◌, ℕ, List, Option, None, Result, Ok, Err, true, IsTrue, IfOk, IfErr, IfNone, OnOk, OnErr, IsErrOf, option_map, vec_len};
 ghost use Rattle.std.specs.Io.KnownBytes.{Appends};
 ghost use Rattle.tsn_types.specs.declared.refusals.Refusal.{Refusal as AnyRefusal};
-ghost use Rattle.tsn_bridge.specs.declared.command.Ask.{Ask as AnyAsk};
+ghost use Rattle.tsn_commands.specs.declared.command.Ask.{Ask as AnyAsk};
 ghost use Rattle.tsn_bytes.specs.declared.bytes.Fault.TheVariants.{Write, Memory, Exhausted};
 ghost use Rattle.tsn_desk.specs.Desks.{IsSeatOf, id_of, first_of};
 ghost use Rattle.tsn_serve.specs.Answers.{MayRead, Replies};
@@ -24,7 +24,8 @@ use tsn_bridge::reply::Reply;
 use tsn_bytes::{ByteIn, ByteOut, Fault};
 use tsn_desk::desk::{Desk, Seat, Standing};
 use tsn_desk::machine::{Nobody, Witness};
-use tsn_replies::{ShortText, write_reply_by};
+use tsn_encoding::ShortText;
+use tsn_replies::write_reply_by;
 use tsn_types::refusals::Refusal;
 
 // The session of the latest hello or resume, once this reply came.

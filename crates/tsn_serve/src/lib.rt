@@ -4,6 +4,7 @@
 //! turns of a shared bridge; beside sessions, on `tsn_port` for workers of its ports.
 #![tactic(auto)]
 
+mod closing;
 mod connection;
 mod gate;
 mod host;
@@ -15,6 +16,7 @@ mod responder;
 mod script;
 mod serving;
 
+pub use closing::{Closing, Nothing, Stop};
 pub use connection::{Connection, session};
 pub use gate::{Free, Gate};
 pub use host::{Gated, Host, start_with};

@@ -4,7 +4,7 @@ ghost use Rattle.std.specs.Prelude.{◌≡◌, ◌≢◌, true, IfErr, OnErr, On
 ghost use Rattle.std.specs.Io.KnownBytes.{Appends};
 ghost use Rattle.tsn_bytes.specs.Bytes.{IsCut};
 ghost use Rattle.tsn_bytes.specs.declared.bytes.Fault.TheVariants.{Memory, Exhausted, Write};
-ghost use Rattle.tsn_bridge.specs.declared.command.Command.TheVariants.{Show, Since};
+ghost use Rattle.tsn_commands.specs.declared.command.Command.TheVariants.{Show, Since};
 ghost use Rattle.tsn_bridge.specs.Histories as machine;
 ghost use Rattle.tsn_serve.specs.Answers.{MayRead, Replies, SaysOf, Answers, BreaksInWriting, asked};
 ghost use Rattle.tsn_serve.specs.Outcomes.{Outcome, moment, most_reads};

@@ -3,8 +3,8 @@ use Rattle.std.proofs.Common.{◌≡◌, ℕ, zero, suc, Option, Some, None, ◌
 use Rattle.tsn_desk.specs.declared.desk.Desk.{Desk}
 use Rattle.tsn_desk.specs.Desks.{first_of}
 use Rattle.tsn_bridge.specs.State.{State}
-use Rattle.tsn_bridge.specs.declared.command.Ask.{Ask}
-use Rattle.tsn_bridge.specs.declared.reply.Reply.{Reply}
+use Rattle.tsn_commands.specs.declared.command.Ask.{Ask}
+use Rattle.tsn_commands.specs.declared.reply.Reply.{Reply}
 use Rattle.tsn_port.specs.declared.worker.PortWorker.{PortWorker}
 use Rattle.tsn_port.specs.Workers.{BridgeSeat, port_of}
 use Rattle.tsn_serve.specs.declared.probing.Probe.{Probe}

@@ -1,12 +1,12 @@
 -- What is told of the last rounds of port workers.
 use Rattle.std.specs.Prelude.{◌≡◌, ℕ, ◌++◌, List, [], ◌∷◌, Option, Some, None, codes, decimal}
 use Rattle.tsn_desk.specs.declared.desk.Desk.{Desk}
-use Rattle.tsn_desk.specs.declared.history.Entry.{Entry as Call}
+use Rattle.tsn_machine.specs.declared.history.Entry.{Entry as Call}
 use Rattle.tsn_desk.specs.Desks.{IsSeatOf, first_of, seen}
-use Rattle.tsn_desk.specs.History.{Begins}
+use Rattle.tsn_machine.specs.History.{Begins}
 use Rattle.tsn_bridge.specs.State.{State}
-use Rattle.tsn_bridge.specs.declared.command.Ask.{Ask}
-use Rattle.tsn_bridge.specs.declared.reply.Reply.{Reply}
+use Rattle.tsn_commands.specs.declared.command.Ask.{Ask}
+use Rattle.tsn_commands.specs.declared.reply.Reply.{Reply}
 use Rattle.tsn_port.specs.declared.worker.PortWorker.{PortWorker}
 use Rattle.tsn_port.specs.Workers.{BridgeSeat, EndsIn, IsPast, IsWorkerOf, TellsGates, last_seen, port_of}
 

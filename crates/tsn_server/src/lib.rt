@@ -3,17 +3,14 @@
 //! `tsn_serve` for connections and workers and on `tsn_port` for what a round tells.
 #![tactic(auto)]
 
-mod closing;
 mod connections;
 mod faults;
-mod lasting;
 mod reporting;
 mod serving;
 mod stopping;
 
 pub use connections::SocketSource;
 pub use faults::{LastingServerFault, ServerFault};
-pub use lasting::serve_lasting;
 pub use reporting::report;
-pub use serving::serve_bridge;
+pub use serving::{serve_bridge, serve_closing};
 pub use stopping::StoppableSource;

@@ -10,8 +10,8 @@ use std::sync::Wait;
 use tsn_bridge::bridge::Bridge;
 use tsn_bytes::{ByteOut, Fault, put_all};
 use tsn_desk::desk::{Desk, Seat};
+use tsn_encoding::ShortText;
 use tsn_port::worker::{PortWorker, RoundFault};
-use tsn_replies::ShortText;
 use tsn_types::numbers::{Instant, PortId};
 
 // The line of a port: its gates, or that the instant is past.

@@ -8,7 +8,6 @@ ghost use Rattle.tsn_server.specs.declared.faults.LastingServerFault.TheVariants
 ghost use Rattle.tsn_server.specs.declared.faults.ServerFault.TheVariants.{Fault as FaultOf, Refused};
 ghost use Rattle.tsn_types.specs.declared.refusals.Refusal.{Refusal};
 
-use crate::closing::{Closing, Nothing};
 use crate::faults::{LastingServerFault, ServerFault, ended_by, serving_failed};
 use crate::reporting::report;
 use std::alloc::Global;
@@ -17,7 +16,7 @@ use std::thread::Threads;
 use tsn_bridge::bridge::Bridge;
 use tsn_bytes::{ByteOut, Fault};
 use tsn_desk::desk::Desk;
-use tsn_serve::{Host, Source, serve_beside};
+use tsn_serve::{Closing, Host, Nothing, Source, serve_beside};
 use tsn_types::numbers::{Instant, PortId};
 
 /// The most seats that a desk has.
@@ -67,8 +66,9 @@ fn seats_for(workers: usize, ports: usize) -> usize
     workers.min(MOST_SEATS - ports) + ports
 }
 
-// Serves connections, and with an instant the ports; closes; and tells of the last rounds, if there is an instant.
-pub(crate) fn serve_closing<
+/// Serves connections as `serve_bridge` does, and does what is to be done once none is left ahead of the last rounds.
+/// Where that fails, no round is told.
+pub fn serve_closing<
     R: Wait + Threads + Sync,
     S: Source + Sync,
     H: Host + Sync,

@@ -6,8 +6,7 @@ use std::os::unix::net::UnixStream;
 use std::sync::{Mutex, Wait};
 use std::time::{Clock, Duration};
 use tsn_bytes::StdIo;
-use tsn_clerk::Stop;
-use tsn_serve::Source;
+use tsn_serve::{Source, Stop};
 use tsn_sockets::{Endpoint, Log, LoggedWriter};
 
 /// How long a connection of the service's own may take, in milliseconds, with which it wakes the thread that waits for

@@ -11,7 +11,7 @@ use Rattle.tsn_types.specs.declared.keys.Kind.TheVariants as kinds
 use Rattle.tsn_types.specs.declared.limits.Limits.{Limits}
 use Rattle.tsn_types.specs.declared.records.Record.{Record}
 use Rattle.tsn_types.specs.declared.refusals.Refusal.TheVariants.{TooLong}
-use Rattle.tsn_bridge.specs.declared.bridge.Setup.{Setup}
+use Rattle.tsn_config.specs.declared.setup.Setup.{Setup}
 use Rattle.tsn_records.specs.Answers.{each, or_syntax, refused}
 use Rattle.tsn_records.specs.Keys.{kind_text}
 use Rattle.tsn_setup.specs.Ranges.{keyed_record, limits}
@@ -29,7 +29,7 @@ use Rattle.tsn_setup.proofs.Ordered.{IsOrdered, text_ordered}
 use Rattle.tsn_records.proofs.Steps.{steps, only, syntax_there, not_refused}
 use Rattle.tsn_records.proofs.NameOrder.{same_bytes, same_text}
 use Rattle.tsn_setup.proofs.Rows.{is_among, members_have, all_among}
-use Rattle.tsn_bridge.proofs.Later.{all_joined}
+use Rattle.tsn_config.proofs.Joined.{all_joined}
 
 -- ---- the tables of a document
 

@@ -6,7 +6,7 @@ use Rattle.tsn_types.specs.Numbers.{Within, most_ports}
 use Rattle.tsn_types.specs.declared.limits.Limits.{Limits}
 use Rattle.tsn_types.specs.declared.refusals.Field.{Field}
 use Rattle.tsn_types.specs.declared.refusals.Field.TheVariants as fields
-use Rattle.tsn_bridge.specs.Beginning.{standard_limits}
+use Rattle.tsn_config.specs.Opening.{standard_limits}
 use Rattle.tsn_setup.specs.Ranges.{limit, limits}
 use Rattle.tsn_setup.specs.Tables.{limits_shape}
 use Rattle.tsn_setup.specs.Toml.{whole, if_given, number_or_none_at}

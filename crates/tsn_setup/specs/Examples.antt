@@ -3,8 +3,8 @@ use Rattle.std.specs.Prelude.{ℕ, List, ◌++◌, Result, Ok, codes}
 use Rattle.tsn_types.specs.declared.keys.Key.{Key}
 use Rattle.tsn_types.specs.declared.records.Record.{Record}
 use Rattle.tsn_types.specs.declared.refusals.Refusal.{Refusal}
-use Rattle.tsn_bridge.specs.Beginning.{standard_limits}
-use Rattle.tsn_bridge.specs.declared.bridge.Setup.{Setup}
+use Rattle.tsn_config.specs.Opening.{standard_limits}
+use Rattle.tsn_config.specs.declared.setup.Setup.{Setup}
 
 -- two entries that fill the cycle
 abbrev pub port_table : List ℕ

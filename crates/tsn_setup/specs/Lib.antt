@@ -1,5 +1,4 @@
 pub mod Examples
-pub mod Opening
 pub mod Plain
 pub mod PlainNumbers
 pub mod PlainTrays

@@ -7,7 +7,7 @@ use Rattle.tsn_types.specs.declared.limits.Limits.{Limits}
 use Rattle.tsn_types.specs.declared.records.Record.{Record}
 use Rattle.tsn_types.specs.declared.refusals.Field.{Field}
 use Rattle.tsn_types.specs.declared.refusals.Field.TheVariants as fields
-use Rattle.tsn_bridge.specs.Beginning.{standard_limits}
+use Rattle.tsn_config.specs.Opening.{standard_limits}
 use Rattle.tsn_records.specs.Answers.{◌>>=◌}
 use Rattle.tsn_records.specs.Ranges.{within, key_of_kind, record_of}
 use Rattle.tsn_records.specs.Values.{kind_of_draft}

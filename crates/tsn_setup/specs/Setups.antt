@@ -5,7 +5,7 @@ use Rattle.toml.specs.Data.{Data, table}
 use Rattle.toml.specs.Parse.{parse_document}
 use Rattle.tsn_types.specs.declared.refusals.Refusal.{Refusal}
 use Rattle.tsn_types.specs.declared.refusals.Refusal.TheVariants.{TooLong}
-use Rattle.tsn_bridge.specs.declared.bridge.Setup.{Setup}
+use Rattle.tsn_config.specs.declared.setup.Setup.{Setup}
 pub use Rattle.tsn_export.specs.Text.{longest_setup}
 use Rattle.tsn_records.specs.Answers.{◌>>=◌, each, or_syntax, refused}
 use Rattle.tsn_records.specs.Members.{setup_names}

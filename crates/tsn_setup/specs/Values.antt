@@ -15,8 +15,8 @@ use Rattle.tsn_types.specs.declared.keys.Kind.TheVariants as kinds
 use Rattle.tsn_types.specs.declared.limits.Limits.{Limits}
 use Rattle.tsn_types.specs.declared.records.Record.{Record}
 use Rattle.tsn_config.specs.Ids.{is_of}
-use Rattle.tsn_bridge.specs.Beginning.{standard_limits}
-use Rattle.tsn_bridge.specs.declared.bridge.Setup.{Setup}
+use Rattle.tsn_config.specs.Opening.{standard_limits}
+use Rattle.tsn_config.specs.declared.setup.Setup.{Setup}
 use Rattle.tsn_records.specs.Keys.{kind_text}
 use Rattle.tsn_records.specs.Members.{rows_of, setup_names}
 use Rattle.tsn_records.specs.Values.{kind_of_draft, values_of, record_draft}

@@ -3,7 +3,7 @@
 //! A document is a TOML table. Its members that are numbers are the limits; the tables `port`, `filter`, `gate` and
 //! `meter` are records, each with its identifier and the members that the record has in a command. A member that would
 //! be null there is left out here. References, repeated keys and the limits on identifiers and lists are not looked
-//! at: `Bridge::new` tests them. `bridge_of` is both, one behind the other.
+//! at: who opens a configuration of it tests them.
 #![tactic(auto)]
 
 mod drafts;
@@ -11,7 +11,6 @@ mod gathered;
 mod given;
 pub mod laws;
 mod members;
-mod opening;
 mod plain;
 mod plain_documents;
 mod plain_entries;
@@ -20,6 +19,4 @@ mod ranges;
 mod setups;
 mod tables;
 
-pub use opening::bridge_of;
 pub use setups::setup_of;
-pub use tsn_export::LONGEST_SETUP;

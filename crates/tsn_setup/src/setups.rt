@@ -13,7 +13,7 @@ use crate::ranges::{keyed_records, limits};
 use crate::tables::{limits_shape, tables_shape};
 use std::alloc::Global;
 use toml::Value;
-use tsn_bridge::bridge::Setup;
+use tsn_config::setup::Setup;
 use tsn_export::LONGEST_SETUP;
 use tsn_records::allowed::DOCUMENT;
 use tsn_records::unread::Unread;

@@ -1,8 +1,8 @@
 -- The value of what may be asked: its numbers fit 64 bits, and its texts are plain ASCII.
 use Rattle.std.proofs.Common.{ℕ, suc, List, Some, None, refl, subst, arith}
 use Rattle.std.specs.Prelude.{⊤}
-use Rattle.tsn_bridge.specs.declared.command.Command.{Command}
-use Rattle.tsn_bridge.specs.declared.command.Command.TheVariants as commands
+use Rattle.tsn_commands.specs.declared.command.Command.{Command}
+use Rattle.tsn_commands.specs.declared.command.Command.TheVariants as commands
 use Rattle.tsn_edit.specs.declared.Edit.{Edit}
 use Rattle.tsn_edit.specs.declared.Edit.TheVariants as edits
 use Rattle.tsn_records.proofs.Pairs.{◌&◌}

@@ -11,7 +11,7 @@ use Rattle.std.specs.Str.{is_utf8}
 use Rattle.serde_json.specs.Data.{Data}
 use Rattle.serde_json.specs.Read.{read}
 use Rattle.serde_json.specs.Written.{compact_text}
-use Rattle.tsn_bridge.specs.declared.command.Command.{Command}
+use Rattle.tsn_commands.specs.declared.command.Command.{Command}
 use Rattle.tsn_wire.proofs.Accepting.{accepts_values}
 use Rattle.tsn_wire.specs.Reading.{data_of}
 use Rattle.tsn_wire.specs.Values.{MayBeAsked, hello_data, value_of}

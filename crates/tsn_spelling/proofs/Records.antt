@@ -4,7 +4,7 @@ use Rattle.std.proofs.lemmas.List.{take_more, take_all}
 use Rattle.serde_json.specs.Data.{Data}
 use Rattle.serde_json.specs.View.{items_of}
 use Rattle.serde_json.specs.Written.{compact_text, items_text}
-use Rattle.tsn_replies.proofs.Pieces.{behind, behind_more, behind_none, behind_closed}
+use Rattle.tsn_encoding.proofs.Pieces.{behind, behind_more, behind_none, behind_closed}
 use Rattle.tsn_spelling.specs.Growing.{Grows, GoesOn}
 use Rattle.tsn_spelling.proofs.Growing.{none_more, grows_on, pushed, goes_on, moved, as_piece}
 

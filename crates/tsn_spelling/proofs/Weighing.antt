@@ -21,7 +21,7 @@ use Rattle.std.proofs.lemmas.Fmt.{length-decimal-le}
 use Rattle.std.specs.Float.{binary64, float_is_finite}
 use Rattle.std.specs.Float.Numeral.{Parts, scan_numeral, numeral_digits, nearest_float}
 use Rattle.serde_json.specs.Read.{number_of, number_from, float_of, is_integer}
-use Rattle.tsn_replies.proofs.Escapes.{byte_short, byte_within, escape_joined}
+use Rattle.tsn_encoding.proofs.Escapes.{byte_short, byte_within, escape_joined}
 
 -- the digits of a whole number; nothing is said of others
 abbrev pub whole_weight : Option Num → ℕ

@@ -1,9 +1,9 @@
 -- What holds of the line of an ask: it reads back, it has no line feed, and what was read may be asked.
 use Rattle.std.specs.Prelude.{◌≡◌, ◌≢◌, ℕ, ◌≤◌, List, Option, All, Ok, length}
-use Rattle.tsn_bridge.specs.declared.command.Ask.{Ask}
-use Rattle.tsn_bridge.specs.declared.command.Command.{Command}
-use Rattle.tsn_bridge.specs.declared.command.Command.TheVariants.{Hello, Enable, Disable, Apply}
-use Rattle.tsn_bridge.specs.Histories.{CommandInRange}
+use Rattle.tsn_commands.specs.declared.command.Ask.{Ask}
+use Rattle.tsn_commands.specs.declared.command.Command.{Command}
+use Rattle.tsn_commands.specs.declared.command.Command.TheVariants.{Hello, Enable, Disable, Apply}
+use Rattle.tsn_commands.specs.Commands.{CommandInRange}
 use Rattle.tsn_types.specs.declared.keys.Key.{Key}
 use Rattle.tsn_types.specs.Numbers.{IsInstant}
 use Rattle.tsn_wire.specs.Reading.{line_of}

@@ -8,7 +8,7 @@ ghost use Rattle.tsn_spelling.specs.Growing.{list_front};
 
 use crate::line::{LONGEST_WORD, push_session, push_word};
 use tsn_chain::frame::Frame;
-use tsn_replies::{ShortText, push_flag, push_key_text, push_number, push_session_name};
+use tsn_encoding::{ShortText, push_flag, push_key_text, push_number, push_session_name};
 use tsn_types::keys::{Key, Kind};
 use tsn_types::names::SessionName;
 use tsn_types::numbers::Instant;

@@ -13,7 +13,7 @@ use crate::recorded::{MOST_BEFORE_RECORD, put_record};
 use std::alloc::AllocError;
 use tsn_edit::Edit;
 use tsn_edit::batches::Batch;
-use tsn_replies::{ShortText, push_key_text};
+use tsn_encoding::{ShortText, push_key_text};
 use tsn_types::keys::Key;
 use tsn_types::records::Record;
 

@@ -1,6 +1,6 @@
 //! What is proved of the line of an ask. Each function does nothing; its contract is what is proved.
 ghost use Rattle.std.specs.Prelude.{◌≡◌, ◌++◌, Some, None, codes};
-ghost use Rattle.tsn_bridge.specs.declared.command.Command.TheVariants as commands;
+ghost use Rattle.tsn_commands.specs.declared.command.Command.TheVariants as commands;
 ghost use Rattle.tsn_types.specs.declared.keys.Key.TheVariants as keys;
 ghost use Rattle.tsn_types.specs.declared.keys.Kind.TheVariants as kinds;
 ghost use Rattle.tsn_types.specs.declared.records.Record.TheVariants as records;
@@ -40,7 +40,7 @@ pub fn others_may_be_asked()
 {}
 
 /// Lines of worked examples.
-#[tactic(auto, unfolding(tsn_replies::proofs::OnLiterals::replies_on_literals))]
+#[tactic(auto, unfolding(tsn_encoding::proofs::OnLiterals::replies_on_literals))]
 pub fn asks_are_spelled()
     ensures hello { line_text (asked (commands.Hello None)) ≡ codes "{\"do\":\"hello\"}" }
     ensures name { line_text (asked (commands.Hello (Some (codes "anna \"n\"")))) ≡ codes "{\"do\":\"hello\",\"name\":\"anna \\\"n\\\"\"}" }

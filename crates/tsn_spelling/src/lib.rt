@@ -3,7 +3,7 @@
 //!
 //! `spell` is the call of the layer above. What it puts reads back as the ask, by `laws::reads_back`, and each ask that
 //! came from a line has such a line, by `laws::was_asked`. It stands on the reader of `tsn_wire`, whose definitions say
-//! what the value of a command is, and on the pieces of `tsn_replies`, by which a record is told in a reply, too.
+//! what the value of a command is, and on the pieces of `tsn_encoding`, by which a record is told in a reply, too.
 #![tactic(auto)]
 
 mod bare;

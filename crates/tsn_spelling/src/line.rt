@@ -5,7 +5,7 @@ ghost use Rattle.json.specs.Print.{escape, quoted};
 ghost use Rattle.tsn_spelling.specs.Growing.{Grows, session_end};
 
 use std::alloc::AllocError;
-use tsn_replies::{CAPACITY, ShortText, push_number};
+use tsn_encoding::{CAPACITY, ShortText, push_number};
 
 /// The most bytes that may be held before a piece of a record, so that it has room.
 pub const MOST_HELD: usize = 300;

@@ -7,7 +7,7 @@ ghost use Rattle.tsn_spelling.specs.Growing.{GoesOn, Grows};
 
 use crate::line::{MOST_HELD, make_room};
 use std::alloc::AllocError;
-use tsn_replies::{
+use tsn_encoding::{
     ShortText, ShownItem, push_filter, push_gate_end, push_gate_front, push_meter, push_port_front,
 };
 use tsn_types::records::Record;

@@ -10,8 +10,8 @@ use crate::bare::{
 use crate::edits::{put_batch, put_edit};
 use crate::line::hand_on;
 use std::alloc::AllocError;
-use tsn_bridge::command::{Ask, Command};
-use tsn_replies::ShortText;
+use tsn_commands::command::{Ask, Command};
+use tsn_encoding::ShortText;
 
 // Puts the line into the vector or into the text, which is empty before: one stands behind the other.
 #[tactic(auto, unfolding(json::specs::Print::escape_byte), using(crate::proofs::Growing::in_line, crate::proofs::Growing::in_text))]

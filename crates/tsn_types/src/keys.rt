@@ -1,6 +1,6 @@
 //! Keys of the configuration: a kind of managed object and the number of an instance.
 ghost use Rattle.std.specs.Prelude.{◌≡◌};
-ghost use Rattle.tsn_types.specs.Keys.{key_cmp, kind};
+ghost use Rattle.tsn_types.specs.Keys.{key_cmp};
 
 use crate::numbers::{FilterId, GateId, MeterId, PortId};
 use std::cmp::Ordering;
@@ -28,18 +28,6 @@ pub enum Kind {
 }
 
 impl Key {
-    /// The kind of what the key names.
-    pub fn kind(self) -> Kind
-        ensures { result ≡ kind self }
-    {
-        match self {
-            Key::Port(_) => Kind::Port,
-            Key::Filter(_) => Kind::Filter,
-            Key::Gate(_) => Kind::Gate,
-            Key::Meter(_) => Kind::Meter,
-        }
-    }
-
     /// How the keys are ordered: by kind, and then by number.
     pub fn order(self, other: Key) -> Ordering
         ensures { result ≡ key_cmp self other }

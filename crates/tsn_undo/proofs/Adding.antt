@@ -8,10 +8,10 @@ use Rattle.tsn_edit.specs.Changes.{after_change, Fits}
 use Rattle.tsn_edit.specs.Runs.{run, IsGood}
 use Rattle.tsn_edit.proofs.Inverses.{run-append, good-append, good_front, good_rest, end_kept}
 use Rattle.tsn_types.specs.declared.limits.Limits.{Limits}
-use Rattle.tsn_journal.specs.declared.entries.What.{What}
-use Rattle.tsn_journal.specs.declared.entries.Entry.{Entry}
-use Rattle.tsn_journal.specs.declared.entries.What.TheVariants.{Settled}
-use Rattle.tsn_journal.specs.Entries.{Applied, IsNoSettle, adds, applies, changes, collect, settled_edits, standing, with_entry}
+use Rattle.tsn_entries.specs.declared.entries.What.{What}
+use Rattle.tsn_entries.specs.declared.entries.Entry.{Entry}
+use Rattle.tsn_entries.specs.declared.entries.What.TheVariants.{Settled}
+use Rattle.tsn_entries.specs.Entries.{Applied, IsNoSettle, adds, applies, changes, collect, settled_edits, standing, with_entry}
 use Rattle.tsn_journal.proofs.Marking.{IsNumbered-with_entry}
 use Rattle.tsn_journal.proofs.Numbers.{changes-append, collect_push, rises_standing, standing_push, undoes_number}
 use Rattle.tsn_journal.proofs.Settling.{settled_kept, settled_more, split_at}

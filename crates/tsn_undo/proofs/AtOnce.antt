@@ -7,10 +7,10 @@ use Rattle.tsn_edit.specs.Changes.{after_change, conflicts}
 use Rattle.tsn_edit.specs.Parts.{inverse}
 use Rattle.tsn_edit.specs.Batches.{change_of}
 use Rattle.tsn_edit.proofs.Inverses.{taken_back}
-use Rattle.tsn_journal.specs.declared.entries.What.TheVariants.{Made}
-use Rattle.tsn_journal.specs.Entries.{Applied, IsNumbered, no_room, standing}
-use Rattle.tsn_journal.specs.Finding.{find_conflict, last_of, last_where, later_than}
-use Rattle.tsn_journal.proofs.LastWhere.{last_where-append}
+use Rattle.tsn_entries.specs.declared.entries.What.TheVariants.{Made}
+use Rattle.tsn_entries.specs.Entries.{Applied, IsNumbered, no_room, standing}
+use Rattle.tsn_entries.specs.Finding.{find_conflict, last_of, last_where, later_than}
+use Rattle.tsn_entries.proofs.LastWhere.{last_where-append}
 use Rattle.tsn_journal.proofs.Marking.{IsNumbered-with_entry}
 use Rattle.tsn_journal.proofs.Numbers.{Rises, later_than_rest, rises_standing}
 use Rattle.tsn_undo.specs.Ledger.{Ledger, enter, present}

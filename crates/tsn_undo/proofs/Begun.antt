@@ -2,7 +2,7 @@
 use Rattle.std.proofs.Common.{◌≡◌, List, [], sym, subst, refl}
 use Rattle.tsn_types.specs.declared.limits.Limits.{Limits}
 use Rattle.tsn_edit.specs.Configuration.{Configuration, IsWellKept}
-use Rattle.tsn_journal.specs.declared.entries.Entry.{Entry}
+use Rattle.tsn_entries.specs.declared.entries.Entry.{Entry}
 use Rattle.tsn_undo.specs.Ledger.{IsBook}
 
 begun : (l : Limits) (c : Configuration) → IsWellKept l c → IsBook l c []

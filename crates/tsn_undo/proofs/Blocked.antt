@@ -6,9 +6,9 @@ use Rattle.tsn_edit.proofs.KeyFacts.{by_bool}
 use Rattle.tsn_types.specs.declared.refusals.Refusal.{Refusal}
 use Rattle.tsn_types.specs.declared.refusals.Refusal.TheVariants.{JournalFull}
 use Rattle.tsn_types.proofs.Ordered.{AtMost, least-before}
-use Rattle.tsn_journal.specs.declared.entries.Entry.{Entry}
-use Rattle.tsn_journal.specs.Entries.{Applied, most_entries, no_room, standing}
-use Rattle.tsn_journal.specs.Finding.{find_conflict_of_others, find_own_in_conflict, last_where, own_standing}
+use Rattle.tsn_entries.specs.declared.entries.Entry.{Entry}
+use Rattle.tsn_entries.specs.Entries.{Applied, most_entries, no_room, standing}
+use Rattle.tsn_entries.specs.Finding.{find_conflict_of_others, find_own_in_conflict, last_where, own_standing}
 use Rattle.tsn_undo.specs.Ledger.{Ledger}
 use Rattle.tsn_undo.specs.UndoAll.{conflict_with_others, undo_all_cause, undo_all_refusal}
 

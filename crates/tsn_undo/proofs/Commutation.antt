@@ -13,7 +13,7 @@ use Rattle.tsn_edit.specs.Changes.{after_change, conflicts}
 use Rattle.tsn_edit.specs.Runs.{run, IsGood}
 use Rattle.tsn_edit.proofs.KeyFacts.{before_or, by_bool, part_on}
 use Rattle.tsn_edit.proofs.Apart.{Agrees, Apart, Apart-append, Apart-from_test, agrees_left, agrees_taken, begin_agrees, fits_left}
-use Rattle.tsn_journal.specs.Entries.{Applied, changes}
+use Rattle.tsn_entries.specs.Entries.{Applied, changes}
 use Rattle.tsn_undo.specs.Commuting.{Commutes, IsClosed, first_on, in_set, left, value_before}
 
 apart_from_closed : (out : Applied → Bool) (x y : Applied) → (IsTrue (conflicts y.change x.change) → IsTrue (out y)) → out y ≡ false

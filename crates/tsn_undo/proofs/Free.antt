@@ -11,9 +11,9 @@ use Rattle.tsn_types.proofs.Ordered.{AtMost, least-before}
 use Rattle.tsn_edit.specs.declared.Edit.{Edit}
 use Rattle.tsn_edit.specs.Batches.{refusal}
 use Rattle.tsn_edit.proofs.Ordered.{batch_refusal-most}
-use Rattle.tsn_journal.specs.declared.entries.Entry.{Entry}
-use Rattle.tsn_journal.specs.Entries.{Applied, IsNumbered, applies, most_entries, no_room, standing}
-use Rattle.tsn_journal.specs.Finding.{change_at, entry, find_conflict, last_of, last_where, standing_entry}
+use Rattle.tsn_entries.specs.declared.entries.Entry.{Entry}
+use Rattle.tsn_entries.specs.Entries.{Applied, IsNumbered, applies, most_entries, no_room, standing}
+use Rattle.tsn_entries.specs.Finding.{change_at, entry, find_conflict, last_of, last_where, standing_entry}
 use Rattle.tsn_journal.proofs.Standing.{standing_change, standing_found}
 use Rattle.tsn_undo.specs.Ledger.{Ledger, present}
 use Rattle.tsn_undo.specs.Steps.{IsFree, edit_refusal, undo_cause, undo_refusal}

@@ -10,9 +10,9 @@ use Rattle.tsn_types.specs.declared.limits.Limits.{Limits}
 use Rattle.tsn_edit.specs.Runs.{run, IsGood}
 use Rattle.tsn_edit.proofs.InOrder.{change_is_result}
 use Rattle.tsn_edit.proofs.Inverses.{end_kept}
-use Rattle.tsn_journal.specs.declared.entries.Entry.{Entry}
-use Rattle.tsn_journal.specs.declared.entries.What.TheVariants.{Made}
-use Rattle.tsn_journal.specs.Entries.{applies, changes, collect, standing, undone, with_entry}
+use Rattle.tsn_entries.specs.declared.entries.Entry.{Entry}
+use Rattle.tsn_entries.specs.declared.entries.What.TheVariants.{Made}
+use Rattle.tsn_entries.specs.Entries.{applies, changes, collect, standing, undone, with_entry}
 use Rattle.tsn_journal.proofs.Numbers.{last_where_some}
 use Rattle.tsn_undo.specs.Ledger.{IsBook, Ledger, enter, present}
 use Rattle.tsn_undo.specs.Soundness.{IsSound, base}

@@ -10,9 +10,9 @@ use Rattle.tsn_edit.specs.Changes.{after_change, conflicts}
 use Rattle.tsn_edit.specs.Parts.{inverse}
 use Rattle.tsn_edit.proofs.Inverses.{taken_back}
 use Rattle.tsn_edit.proofs.KeyFacts.{by_bool}
-use Rattle.tsn_journal.specs.declared.entries.Entry.{Entry}
-use Rattle.tsn_journal.specs.Entries.{Applied, applied, no_room, standing, undoes, undone}
-use Rattle.tsn_journal.specs.Finding.{find_conflict_of_others, find_own_in_conflict, later_than, may_redo, own_standing, redo_of, standing_entry}
+use Rattle.tsn_entries.specs.declared.entries.Entry.{Entry}
+use Rattle.tsn_entries.specs.Entries.{Applied, applied, no_room, standing, undoes, undone}
+use Rattle.tsn_entries.specs.Finding.{find_conflict_of_others, find_own_in_conflict, later_than, may_redo, own_standing, redo_of, standing_entry}
 use Rattle.tsn_journal.proofs.Numbers.{last_where_some}
 use Rattle.tsn_journal.proofs.Standing.{standing_found, standing_placed}
 use Rattle.tsn_undo.specs.Ledger.{Ledger, present}

@@ -14,10 +14,10 @@ use Rattle.tsn_edit.specs.Changes.{Fits, conflicts}
 use Rattle.tsn_edit.specs.Runs.{run, IsGood}
 use Rattle.tsn_edit.proofs.Inverses.{end_kept, good_front, good_rest, run-append, undoable}
 use Rattle.tsn_edit.proofs.KeyFacts.{by_bool, by_option}
-use Rattle.tsn_journal.specs.declared.entries.What.{What}
-use Rattle.tsn_journal.specs.declared.entries.Entry.{Entry}
-use Rattle.tsn_journal.specs.Entries.{Applied, IsNumbered, applied, applies, changes, collect, most_entries, no_room, redone, with_entry}
-use Rattle.tsn_journal.specs.Finding.{change_at, entry, find_redo_conflict, later_than, redo_of, undone_entry}
+use Rattle.tsn_entries.specs.declared.entries.What.{What}
+use Rattle.tsn_entries.specs.declared.entries.Entry.{Entry}
+use Rattle.tsn_entries.specs.Entries.{Applied, IsNumbered, applied, applies, changes, collect, most_entries, no_room, redone, with_entry}
+use Rattle.tsn_entries.specs.Finding.{change_at, entry, find_redo_conflict, later_than, redo_of, undone_entry}
 use Rattle.tsn_journal.proofs.Numbers.{Rises, changes-append, last_where_none, later_than_rest, rises_collect}
 use Rattle.tsn_journal.proofs.Standing.{entry_applied, redo_found, undone_change, undone_is_entry}
 use Rattle.tsn_undo.specs.Ledger.{Ledger, enter, present}

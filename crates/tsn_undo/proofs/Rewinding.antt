@@ -6,9 +6,9 @@ use Rattle.tsn_edit.specs.Configuration.{Configuration, IsWellKept}
 use Rattle.tsn_edit.specs.Changes.{after_change, Fits}
 use Rattle.tsn_edit.specs.Runs.{run}
 use Rattle.tsn_edit.proofs.Inverses.{end_kept, taken_back}
-use Rattle.tsn_journal.specs.declared.entries.What.{What}
-use Rattle.tsn_journal.specs.declared.entries.Entry.{Entry}
-use Rattle.tsn_journal.specs.Entries.{applies, changes, collect, with_entry}
+use Rattle.tsn_entries.specs.declared.entries.What.{What}
+use Rattle.tsn_entries.specs.declared.entries.Entry.{Entry}
+use Rattle.tsn_entries.specs.Entries.{applies, changes, collect, with_entry}
 use Rattle.tsn_undo.specs.Ledger.{IsBook, Ledger, enter, opening_of, present, rewound}
 use Rattle.tsn_undo.specs.Soundness.{IsSound, configuration}
 use Rattle.tsn_undo.proofs.Adding.{applied_push, configuration_push, nothing_push}

@@ -4,9 +4,9 @@ use Rattle.std.specs.Prelude.{filter, nat_le}
 use Rattle.std.proofs.lemmas.Bool.{ltb-true}
 use Rattle.tsn_types.specs.Limits.{first_cause}
 use Rattle.tsn_types.proofs.Causes.{each_none, unless-None}
-use Rattle.tsn_journal.specs.declared.entries.What.TheVariants.{Settled}
-use Rattle.tsn_journal.specs.Entries.{Applied, settled}
-use Rattle.tsn_journal.specs.Finding.{later_than}
+use Rattle.tsn_entries.specs.declared.entries.What.TheVariants.{Settled}
+use Rattle.tsn_entries.specs.Entries.{Applied, settled}
+use Rattle.tsn_entries.specs.Finding.{later_than}
 use Rattle.tsn_journal.proofs.Closing.{settled_push}
 use Rattle.tsn_undo.specs.Ledger.{Ledger, enter}
 use Rattle.tsn_undo.specs.Settling.{Settles, settle_causes, settle_refusal}

@@ -15,11 +15,11 @@ use Rattle.tsn_edit.specs.Configuration.{Configuration}
 use Rattle.tsn_edit.specs.Changes.{Fits, conflicts}
 use Rattle.tsn_edit.specs.Runs.{run, IsGood}
 use Rattle.tsn_edit.proofs.KeyFacts.{by_bool, by_option}
-use Rattle.tsn_journal.specs.declared.entries.Entry.{Entry}
-use Rattle.tsn_journal.specs.declared.entries.What.{What}
-use Rattle.tsn_journal.specs.declared.entries.What.TheVariants.{Undone}
-use Rattle.tsn_journal.specs.Entries.{Applied, IsNumbered, changes, no_room, standing, undone, with_entry}
-use Rattle.tsn_journal.specs.Finding.{change_at, find_conflict, find_conflict_of_others, find_own_in_conflict, last_of, last_where, later_than, others_standing, own_standing}
+use Rattle.tsn_entries.specs.declared.entries.Entry.{Entry}
+use Rattle.tsn_entries.specs.declared.entries.What.{What}
+use Rattle.tsn_entries.specs.declared.entries.What.TheVariants.{Undone}
+use Rattle.tsn_entries.specs.Entries.{Applied, IsNumbered, changes, no_room, standing, undone, with_entry}
+use Rattle.tsn_entries.specs.Finding.{change_at, find_conflict, find_conflict_of_others, find_own_in_conflict, last_of, last_where, later_than, others_standing, own_standing}
 use Rattle.tsn_journal.proofs.Numbers.{Rises, filter_none, last_where_none, last_where_some, later_than_rest, left_one, rises_standing}
 use Rattle.tsn_journal.proofs.Standing.{standing_change, standing_placed}
 use Rattle.tsn_undo.specs.Commuting.{IsClosed}

@@ -8,9 +8,9 @@ use Rattle.tsn_edit.specs.Changes.{after_change, conflicts, Fits}
 use Rattle.tsn_edit.specs.Runs.{run, IsGood}
 use Rattle.tsn_edit.proofs.Inverses.{run-append, good-append, good_front, good_rest, end_kept, undoable}
 use Rattle.tsn_types.specs.declared.limits.Limits.{Limits}
-use Rattle.tsn_journal.specs.declared.entries.Entry.{Entry}
-use Rattle.tsn_journal.specs.Entries.{Applied, applies, changes, collect, standing, undone, with_entry}
-use Rattle.tsn_journal.specs.Finding.{find_conflict, later_than}
+use Rattle.tsn_entries.specs.declared.entries.Entry.{Entry}
+use Rattle.tsn_entries.specs.Entries.{Applied, applies, changes, collect, standing, undone, with_entry}
+use Rattle.tsn_entries.specs.Finding.{find_conflict, later_than}
 use Rattle.tsn_journal.proofs.Marking.{IsNumbered-with_entry}
 use Rattle.tsn_journal.proofs.Numbers.{changes-append, Rises, rises_standing, last_where_none, later_than_rest, left_one, standing_push}
 use Rattle.tsn_journal.proofs.Settling.{settled_kept}

@@ -10,7 +10,7 @@ use Rattle.tsn_edit.specs.Parts.{Change, Part, parts}
 use Rattle.tsn_edit.specs.Configuration.{Configuration}
 use Rattle.tsn_edit.specs.Changes.{conflicts}
 use Rattle.tsn_edit.specs.Runs.{run, IsGood}
-use Rattle.tsn_journal.specs.Entries.{Applied, changes}
+use Rattle.tsn_entries.specs.Entries.{Applied, changes}
 
 -- the entries of the set, and the others
 abbrev pub in_set : (Applied → Bool) → List Applied → List Applied

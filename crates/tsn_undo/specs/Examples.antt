@@ -8,9 +8,9 @@ use Rattle.tsn_types.specs.declared.records.Record.{Record}
 use Rattle.tsn_types.specs.declared.records.Record.TheVariants.{Filter as FilterRecord, Gate as GateRecord, Meter as MeterRecord}
 use Rattle.tsn_types.specs.Examples.{gate_with}
 use Rattle.tsn_edit.specs.Parts.{Change}
-use Rattle.tsn_journal.specs.declared.entries.Entry.{Entry}
-use Rattle.tsn_journal.specs.declared.entries.What.TheVariants.{Made, Settled}
-use Rattle.tsn_journal.specs.Entries.{Applied, undone, with_entry}
+use Rattle.tsn_entries.specs.declared.entries.Entry.{Entry}
+use Rattle.tsn_entries.specs.declared.entries.What.TheVariants.{Made, Settled}
+use Rattle.tsn_entries.specs.Entries.{Applied, undone, with_entry}
 
 -- an open gate with an empty list
 abbrev pub gate : Record

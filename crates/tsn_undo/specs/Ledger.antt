@@ -9,10 +9,10 @@ use Rattle.tsn_types.specs.declared.limits.Limits.{Limits}
 use Rattle.tsn_edit.specs.Parts.{Change, inverse}
 use Rattle.tsn_edit.specs.Configuration.{Configuration}
 use Rattle.tsn_edit.specs.Changes.{after_change}
-use Rattle.tsn_journal.specs.contracts.entries.Entry as entry_row
-use Rattle.tsn_journal.specs.declared.entries.Entry.{Entry}
-use Rattle.tsn_journal.specs.declared.entries.What.{What}
-use Rattle.tsn_journal.specs.Entries.{applies, changes, collect, with_entry}
+use Rattle.tsn_entries.specs.contracts.entries.Entry as entry_row
+use Rattle.tsn_entries.specs.declared.entries.Entry.{Entry}
+use Rattle.tsn_entries.specs.declared.entries.What.{What}
+use Rattle.tsn_entries.specs.Entries.{applies, changes, collect, with_entry}
 use Rattle.tsn_undo.specs.Soundness.{IsSound, base, configuration}
 
 pub record Ledger : Type 0 where

@@ -5,9 +5,9 @@ use Rattle.tsn_types.specs.declared.refusals.Refusal.TheVariants.{NothingToRedo,
 use Rattle.tsn_types.specs.Refusals.{least}
 use Rattle.tsn_edit.specs.Changes.{Fits, restored}
 use Rattle.tsn_edit.specs.Parts.{inverse}
-use Rattle.tsn_journal.specs.declared.entries.Entry.{Entry}
-use Rattle.tsn_journal.specs.Entries.{Applied, no_room, redone}
-use Rattle.tsn_journal.specs.Finding.{find_redo_conflict, redo_of}
+use Rattle.tsn_entries.specs.declared.entries.Entry.{Entry}
+use Rattle.tsn_entries.specs.Entries.{Applied, no_room, redone}
+use Rattle.tsn_entries.specs.Finding.{find_redo_conflict, redo_of}
 use Rattle.tsn_undo.specs.Ledger.{Ledger, enter, present}
 
 -- whether the inverse of the undone change fits the configuration, where there is an undone change

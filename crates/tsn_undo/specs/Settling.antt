@@ -6,9 +6,9 @@ use Rattle.tsn_types.specs.declared.refusals.Refusal.TheVariants.{Range, Settled
 use Rattle.tsn_types.specs.Limits.{unless}
 use Rattle.tsn_types.specs.Refusals.{least}
 use Rattle.tsn_edit.specs.Runs.{run}
-use Rattle.tsn_journal.specs.declared.entries.What.TheVariants.{Settled}
-use Rattle.tsn_journal.specs.Entries.{Applied, changes, no_room, settled, standing}
-use Rattle.tsn_journal.specs.Finding.{later_than}
+use Rattle.tsn_entries.specs.declared.entries.What.TheVariants.{Settled}
+use Rattle.tsn_entries.specs.Entries.{Applied, changes, no_room, settled, standing}
+use Rattle.tsn_entries.specs.Finding.{later_than}
 use Rattle.tsn_undo.specs.Ledger.{Ledger, base_of, enter, present}
 
 -- why a settle is refused: there is no entry of the number, the entries up to it are settled already, a full journal

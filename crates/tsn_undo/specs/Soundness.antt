@@ -4,8 +4,8 @@ use Rattle.std.specs.Prelude.{◌≡◌, List}
 use Rattle.tsn_types.specs.declared.limits.Limits.{Limits}
 use Rattle.tsn_edit.specs.Configuration.{Configuration, IsWellKept}
 use Rattle.tsn_edit.specs.Runs.{run, IsGood}
-use Rattle.tsn_journal.specs.declared.entries.Entry.{Entry}
-use Rattle.tsn_journal.specs.Entries.{IsNumbered, applies, changes, collect, settled_edits, standing}
+use Rattle.tsn_entries.specs.declared.entries.Entry.{Entry}
+use Rattle.tsn_entries.specs.Entries.{IsNumbered, applies, changes, collect, settled_edits, standing}
 
 -- the configuration of a journal: the run from the opening of every change that was applied, in order
 abbrev pub configuration : Configuration → List Entry → Configuration

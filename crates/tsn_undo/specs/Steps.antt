@@ -8,10 +8,10 @@ use Rattle.tsn_edit.specs.Batches.{change_of, refusal, result}
 use Rattle.tsn_edit.specs.Changes.{Fits, restored}
 use Rattle.tsn_edit.specs.Parts.{inverse}
 use Rattle.tsn_edit.specs.Runs.{run, IsGood}
-use Rattle.tsn_journal.specs.declared.entries.Entry.{Entry}
-use Rattle.tsn_journal.specs.declared.entries.What.TheVariants.{Made}
-use Rattle.tsn_journal.specs.Entries.{Applied, changes, no_room, standing, undone}
-use Rattle.tsn_journal.specs.Finding.{find_conflict, last_of}
+use Rattle.tsn_entries.specs.declared.entries.Entry.{Entry}
+use Rattle.tsn_entries.specs.declared.entries.What.TheVariants.{Made}
+use Rattle.tsn_entries.specs.Entries.{Applied, changes, no_room, standing, undone}
+use Rattle.tsn_entries.specs.Finding.{find_conflict, last_of}
 use Rattle.tsn_undo.specs.Ledger.{Ledger, base_of, enter, present}
 
 -- why an edit is refused: by the configuration, or by a full journal

@@ -7,9 +7,9 @@ use Rattle.tsn_edit.specs.Configuration.{Configuration}
 use Rattle.tsn_edit.specs.Changes.{conflicts, room_of}
 use Rattle.tsn_edit.specs.Parts.{inverse}
 use Rattle.tsn_edit.specs.Runs.{run, IsGood}
-use Rattle.tsn_journal.specs.declared.entries.Entry.{Entry}
-use Rattle.tsn_journal.specs.Entries.{Applied, changes, no_room, standing, undone, with_entry}
-use Rattle.tsn_journal.specs.Finding.{find_conflict_of_others, find_own_in_conflict, others_standing, own_standing, standing_entry}
+use Rattle.tsn_entries.specs.declared.entries.Entry.{Entry}
+use Rattle.tsn_entries.specs.Entries.{Applied, changes, no_room, standing, undone, with_entry}
+use Rattle.tsn_entries.specs.Finding.{find_conflict_of_others, find_own_in_conflict, others_standing, own_standing, standing_entry}
 use Rattle.tsn_undo.specs.declared.book.TakingBack.{TakingBack}
 use Rattle.tsn_undo.specs.Ledger.{Ledger, base_of, present}
 

@@ -4,7 +4,7 @@ ghost use Rattle.tsn_types.specs.declared.refusals.Refusal.TheVariants.{Memory};
 ghost use Rattle.tsn_types.specs.Refusals.{IsLeastOrMemory};
 ghost use Rattle.tsn_edit.specs.Changes.{Fits};
 ghost use Rattle.tsn_edit.specs.Parts.{Change as AnyChange, inverse};
-ghost use Rattle.tsn_journal.specs.Finding.{change_at, redo_of};
+ghost use Rattle.tsn_entries.specs.Finding.{change_at, redo_of};
 ghost use Rattle.tsn_undo.specs.Ledger.{Takes, present};
 ghost use Rattle.tsn_undo.specs.Redo.{IsRedoCause, IsRedoable, Redoes, WhyNoRedo};
 

@@ -3,8 +3,8 @@ ghost use Rattle.std.specs.Prelude.{◌≡◌, ◌==◌, ◌*◌, ◌≤◌, ◌
 ghost use Rattle.tsn_edit.specs.Changes.{room_of};
 ghost use Rattle.tsn_types.specs.declared.refusals.Refusal.TheVariants.{Memory};
 ghost use Rattle.tsn_types.specs.Refusals.{IsLeastOrMemory};
-ghost use Rattle.tsn_journal.specs.Entries.{most_entries, standing};
-ghost use Rattle.tsn_journal.specs.Finding.{find_own_in_conflict, own_standing};
+ghost use Rattle.tsn_entries.specs.Entries.{most_entries, standing};
+ghost use Rattle.tsn_entries.specs.Finding.{find_own_in_conflict, own_standing};
 ghost use Rattle.tsn_undo.specs.Commuting.{IsClosed};
 ghost use Rattle.tsn_undo.specs.Ledger.{Holds, Takes};
 ghost use Rattle.tsn_undo.specs.UndoAll.{TakesAllBack, all_undone, conflict_with_others, room_left, taking_back, undo_all_refusal};

@@ -2,9 +2,9 @@
 use Rattle.std.proofs.Common.{◌≡◌, ℕ, ◌≤◌, List, map, Bool, true, false, cond, Some, None, Result, Ok, Err, codes, refl, sym, ap, subst, ◌∙◌}
 use Rattle.serde_json.specs.Data.{Data, boolean, object, string}
 use Rattle.serde_json.specs.Find.{get}
-use Rattle.tsn_bridge.specs.declared.command.Command.{Command}
-use Rattle.tsn_bridge.specs.declared.command.Command.TheVariants as commands
-use Rattle.tsn_bridge.specs.Sessions.{most_sessions}
+use Rattle.tsn_commands.specs.declared.command.Command.{Command}
+use Rattle.tsn_commands.specs.declared.command.Command.TheVariants as commands
+use Rattle.tsn_commands.specs.Commands.{most_sessions, act_command}
 use Rattle.tsn_chain.specs.declared.frame.Frame.{Frame}
 use Rattle.tsn_edit.specs.declared.Edit.{Edit}
 use Rattle.tsn_edit.specs.declared.Edit.TheVariants as edits
@@ -42,8 +42,8 @@ use Rattle.tsn_wire.specs.declared.drafts.FrameDraft.{FrameDraft}
 use Rattle.tsn_wire.specs.declared.drafts.LineDraft.{LineDraft}
 use Rattle.tsn_wire.specs.declared.drafts.LineDraft.TheVariants.{Hello, Named, Session}
 use Rattle.tsn_wire.specs.declared.drafts.NameDraft.TheVariants.{Fit, Unfit}
-use Rattle.tsn_journal.specs.declared.entries.Act.{Act}
-use Rattle.tsn_journal.specs.declared.entries.Act.TheVariants as acts
+use Rattle.tsn_entries.specs.declared.entries.Act.{Act}
+use Rattle.tsn_entries.specs.declared.entries.Act.TheVariants as acts
 use Rattle.tsn_wire.specs.declared.words.Bare.{Bare}
 use Rattle.tsn_wire.specs.declared.words.Bare.TheVariants as bares
 use Rattle.tsn_wire.specs.declared.words.Look.{Look}
@@ -53,7 +53,7 @@ use Rattle.tsn_wire.specs.declared.words.Put.TheVariants as puts
 use Rattle.tsn_wire.specs.declared.words.Word.{Word}
 use Rattle.tsn_wire.specs.declared.words.Word.TheVariants as words
 use Rattle.tsn_wire.specs.Words.{act_word, bare_command, bare_word, edit_command, look_command, look_word, put_edit, put_word, word_of, word_text}
-use Rattle.tsn_bridge.specs.declared.command.Ask.{Ask}
+use Rattle.tsn_commands.specs.declared.command.Ask.{Ask}
 use Rattle.tsn_records.proofs.RecordRanges.{passed, at_most, within_ok, at_most_ok}
 use Rattle.tsn_records.proofs.Steps.{last_step, only, steps, syntax_there, not_refused}
 use Rattle.tsn_wire.proofs.Batching.{batch_known, batch_shaped, edit_draft, edits_back}
@@ -62,7 +62,6 @@ use Rattle.tsn_wire.proofs.FromShapes.{number_there, flag_there, text_there, val
 use Rattle.tsn_wire.proofs.Objects.{IsOrdered, whole_object, line_ordered}
 use Rattle.tsn_wire.proofs.ReadingBack.{in_steps}
 use Rattle.tsn_wire.proofs.Shaping.{shaped}
-use Rattle.tsn_bridge.specs.Families.{act_command}
 
 -- ---- what is accepted is a value
 

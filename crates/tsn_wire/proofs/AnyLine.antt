@@ -19,7 +19,7 @@ use Rattle.tsn_wire.specs.declared.drafts.EditDraft.{EditDraft}
 use Rattle.tsn_wire.specs.declared.drafts.EditDraft.TheVariants as drafts
 use Rattle.tsn_wire.specs.declared.drafts.FrameDraft.{FrameDraft}
 use Rattle.tsn_wire.specs.declared.drafts.LineDraft.TheVariants.{Hello, Session}
-use Rattle.tsn_journal.specs.declared.entries.Act.{Act}
+use Rattle.tsn_entries.specs.declared.entries.Act.{Act}
 use Rattle.tsn_wire.specs.declared.words.Bare.{Bare}
 use Rattle.tsn_wire.specs.declared.words.Look.{Look}
 use Rattle.tsn_wire.specs.declared.words.Put.{Put}

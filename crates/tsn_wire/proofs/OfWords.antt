@@ -2,7 +2,7 @@
 use Rattle.std.proofs.Common.{◌≡◌, true, Some, refl}
 use Rattle.tsn_wire.specs.Lexed.{is_bare}
 use Rattle.tsn_wire.specs.Words.{word_of, word_text}
-use Rattle.tsn_journal.specs.declared.entries.Act.TheVariants as acts
+use Rattle.tsn_entries.specs.declared.entries.Act.TheVariants as acts
 use Rattle.tsn_wire.specs.declared.words.Bare.TheVariants as bares
 use Rattle.tsn_wire.specs.declared.words.Look.TheVariants as looks
 use Rattle.tsn_wire.specs.declared.words.Put.TheVariants as puts

@@ -17,7 +17,7 @@ use Rattle.tsn_wire.specs.Reading.{data_of, line_of_draft, line_of}
 use Rattle.tsn_records.proofs.Digits.{own}
 use Rattle.tsn_types.specs.Numbers.{IsInstanceId}
 use Rattle.tsn_records.specs.Shown.{or_null}
-use Rattle.tsn_bridge.specs.declared.command.Ask.{Ask}
+use Rattle.tsn_commands.specs.declared.command.Ask.{Ask}
 use Rattle.tsn_wire.specs.declared.drafts.LineDraft.{LineDraft}
 use Rattle.tsn_records.proofs.Steps.{then}
 use Rattle.std.proofs.lemmas.Bool.{le-leb, lt-ltb, ne_eqb}

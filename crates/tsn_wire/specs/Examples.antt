@@ -1,12 +1,12 @@
 -- Worked examples: the line that creates a record, lines of batches, records that are refused, and the line of a frame.
 use Rattle.std.specs.Prelude.{ℕ, List, true, ◌++◌, Result, Ok, codes}
-use Rattle.tsn_bridge.specs.declared.command.Command.TheVariants.{Batch, Create}
+use Rattle.tsn_commands.specs.declared.command.Command.TheVariants.{Batch, Create}
 use Rattle.tsn_chain.specs.declared.frame.Frame.{Frame}
 use Rattle.tsn_edit.specs.declared.Edit.{Edit}
 use Rattle.tsn_types.specs.declared.keys.Key.{Key}
 use Rattle.tsn_types.specs.declared.records.Record.{Record}
 use Rattle.tsn_types.specs.declared.refusals.Refusal.{Refusal}
-use Rattle.tsn_bridge.specs.declared.command.Ask.{Ask}
+use Rattle.tsn_commands.specs.declared.command.Ask.{Ask}
 
 -- the line that creates the record of a text, in session 1
 abbrev pub create_line : List ℕ → List ℕ → List ℕ

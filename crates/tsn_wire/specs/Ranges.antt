@@ -1,8 +1,8 @@
 -- The ranges of a command's numbers: those of its key before those of its record, and an instant last; those of a batch
 -- edit by edit.
 use Rattle.std.specs.Prelude.{ℕ, Result, Ok}
-use Rattle.tsn_bridge.specs.declared.command.Command.{Command}
-use Rattle.tsn_bridge.specs.declared.command.Command.TheVariants as commands
+use Rattle.tsn_commands.specs.declared.command.Command.{Command}
+use Rattle.tsn_commands.specs.declared.command.Command.TheVariants as commands
 use Rattle.tsn_chain.specs.declared.frame.Frame.{Frame}
 use Rattle.tsn_edit.specs.declared.Edit.{Edit}
 use Rattle.tsn_edit.specs.declared.Edit.TheVariants as edits
@@ -17,7 +17,7 @@ use Rattle.tsn_wire.specs.declared.drafts.CommandDraft.TheVariants as wanted
 use Rattle.tsn_wire.specs.declared.drafts.EditDraft.{EditDraft}
 use Rattle.tsn_wire.specs.declared.drafts.EditDraft.TheVariants as drafts
 use Rattle.tsn_wire.specs.declared.drafts.FrameDraft.{FrameDraft}
-use Rattle.tsn_bridge.specs.Families.{act_command}
+use Rattle.tsn_commands.specs.Commands.{act_command}
 
 -- the number after which entries are asked for, and the one up to which they are settled, have 32 bits
 abbrev pub greatest_after : ℕ

@@ -1,6 +1,6 @@
 -- What is shown of a key and a record reads back.
 use Rattle.std.specs.Prelude.{◌≡◌, ℕ, List, Some, Ok}
-use Rattle.tsn_bridge.specs.declared.command.Command.TheVariants.{Create}
+use Rattle.tsn_commands.specs.declared.command.Command.TheVariants.{Create}
 use Rattle.tsn_types.specs.declared.keys.Key.{Key}
 use Rattle.tsn_types.specs.declared.records.Record.{Record}
 use Rattle.tsn_types.specs.InRange.{KeyedInRange}

@@ -3,9 +3,9 @@
 use Rattle.std.specs.Prelude.{◌≡◌, ◌↔◌, ℕ, ◌≤◌, Bool, true, List, Option, Some, None, Ok, codes, ⊤}
 use Rattle.std.specs.List.{AllByRecursion}
 use Rattle.serde_json.specs.Data.{Data, boolean, string, object, member, no_members}
-use Rattle.tsn_bridge.specs.declared.command.Command.{Command}
-use Rattle.tsn_bridge.specs.declared.command.Command.TheVariants.{Hello, Create, Replace, Remove, Batch, Undo, UndoAll, Redo, Settle, Enable, Disable, Apply, Frame as FrameIn, States, Counters, Show, List as ListKind, Since, Resume, Sessions, Setup}
-use Rattle.tsn_bridge.specs.Sessions.{most_sessions}
+use Rattle.tsn_commands.specs.declared.command.Command.{Command}
+use Rattle.tsn_commands.specs.declared.command.Command.TheVariants.{Hello, Create, Replace, Remove, Batch, Undo, UndoAll, Redo, Settle, Enable, Disable, Apply, Frame as FrameIn, States, Counters, Show, List as ListKind, Since, Resume, Sessions, Setup}
+use Rattle.tsn_commands.specs.Commands.{most_sessions}
 use Rattle.tsn_chain.specs.declared.frame.Frame.{Frame}
 use Rattle.tsn_edit.specs.Batches.{IsBatch}
 use Rattle.tsn_edit.specs.declared.Edit.{Edit}

@@ -2,14 +2,14 @@
 use Rattle.std.specs.List.{find}
 use Rattle.std.specs.Prelude.{ℕ, List, [], ◌∷◌, Option, codes}
 use Rattle.std.specs.Str.{bytes_eq}
-use Rattle.tsn_bridge.specs.declared.command.Command.{Command}
-use Rattle.tsn_bridge.specs.declared.command.Command.TheVariants as commands
+use Rattle.tsn_commands.specs.declared.command.Command.{Command}
+use Rattle.tsn_commands.specs.declared.command.Command.TheVariants as commands
 use Rattle.tsn_edit.specs.declared.Edit.{Edit}
 use Rattle.tsn_edit.specs.declared.Edit.TheVariants as edits
 use Rattle.tsn_types.specs.declared.keys.Key.{Key}
 use Rattle.tsn_types.specs.declared.records.Record.{Record}
-use Rattle.tsn_journal.specs.declared.entries.Act.{Act}
-use Rattle.tsn_journal.specs.declared.entries.Act.TheVariants as acts
+use Rattle.tsn_entries.specs.declared.entries.Act.{Act}
+use Rattle.tsn_entries.specs.declared.entries.Act.TheVariants as acts
 use Rattle.tsn_wire.specs.declared.words.Bare.{Bare}
 use Rattle.tsn_wire.specs.declared.words.Bare.TheVariants as bares
 use Rattle.tsn_wire.specs.declared.words.Look.{Look}

@@ -5,7 +5,7 @@ ghost use Rattle.tsn_wire.specs.Batches.{batch_of, drafted_key, drafted_keys, dr
 use crate::words::{Bare, Look, Put};
 use std::marker::Model;
 use tsn_edit::MOST_PARTS;
-use tsn_journal::entries::Act;
+use tsn_entries::entries::Act;
 use tsn_records::drafts::{KeyDraft, RecordDraft};
 use tsn_records::unread::Unread;
 use tsn_types::keys::Kind;

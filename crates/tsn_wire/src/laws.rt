@@ -1,7 +1,7 @@
 //! What the definitions of this crate say of worked examples, so that a definition and a body that are wrong alike
 //! are found out. Each function does nothing; its contract is what is proved.
 ghost use Rattle.std.specs.Prelude.{◌≡◌, [], ◌∷◌, ◌++◌, Some, None, Ok, Err, codes};
-ghost use Rattle.tsn_bridge.specs.declared.command.Command.TheVariants as commands;
+ghost use Rattle.tsn_commands.specs.declared.command.Command.TheVariants as commands;
 ghost use Rattle.tsn_edit.specs.declared.Edit.TheVariants as edits;
 ghost use Rattle.tsn_types.specs.declared.keys.Key.TheVariants as keys;
 ghost use Rattle.tsn_types.specs.declared.records.Record.TheVariants as records;

@@ -1,5 +1,4 @@
-//! What goes in and out of the service: the command that a line says, and, handed on from below, the text of a reply
-//! and the readers and writers of bytes.
+//! What goes into the service: the command that a line says.
 //!
 //! What a line says is defined by what `serde_json` reads of it; nothing of the bridge is looked at. A line whose
 //! members stand each once, in any order and with any white space between, is read without building that tree.
@@ -31,9 +30,4 @@ mod words;
 pub use drafts::{BatchDraft, CommandDraft, EditDraft, FrameDraft, LineDraft};
 pub use reading::{command_of, value_of};
 pub use spelled::spelled_draft;
-pub use tsn_bridge::command::Ask;
-pub use tsn_bytes::{
-    Buffered, ByteIn, ByteOut, Failed, Failing, Fault, MemIn, MemOut, StdIo, put_all,
-};
-pub use tsn_replies::{write_refusal, write_reply};
 pub use words::{Bare, Look, Put};

@@ -4,7 +4,7 @@
 //! fault of shape anywhere comes before a fault of range. Nothing of the bridge is looked at.
 ghost use Rattle.std.specs.Prelude.{◌≡◌};
 ghost use Rattle.serde_json.specs.View.{view};
-ghost use Rattle.tsn_bridge.specs.Sessions.{most_sessions};
+ghost use Rattle.tsn_commands.specs.Commands.{most_sessions};
 ghost use Rattle.tsn_types.specs.declared.refusals.Field.TheVariants as fields;
 ghost use Rattle.tsn_records.specs.Answers.{Reads, IsOrMemory, or_syntax, seen};
 ghost use Rattle.tsn_records.specs.Ranges.{within};
@@ -16,8 +16,7 @@ use crate::ranges::command_of_draft;
 use crate::spelled::spelled_draft;
 use serde_json::Value;
 use std::alloc::Global;
-use tsn_bridge::bridge::MOST_SESSIONS;
-use tsn_bridge::command::{Ask, Command};
+use tsn_commands::command::{Ask, Command, MOST_SESSIONS};
 use tsn_records::unread::Unread;
 use tsn_types::names::SessionName;
 use tsn_types::refusals::{Field, Refusal};

@@ -6,8 +6,8 @@ ghost use Rattle.tsn_wire.specs.Words.{bare_command, word_of, word_text};
 use crate::cursor::Cursor;
 use crate::values::Scanned;
 use std::alloc::Global;
-use tsn_bridge::command::Command;
-use tsn_journal::entries::Act;
+use tsn_commands::command::Command;
+use tsn_entries::entries::Act;
 
 /// Edits that put a record at a key.
 #[derive(Clone, Copy, Debug, PartialEq, Eq)]

@@ -8,31 +8,22 @@
 //! status is 0, or 1 after a line on standard error that says why, or 2 for a command line that is refused.
 #![tactic(auto)]
 
-mod anew;
-mod beginning;
-mod connections;
-mod journal;
-mod lines;
-mod logging;
-mod looking;
-mod progress;
-mod serving;
 mod setup;
 #[cfg(test)]
 mod tests;
 
-use connections::{Place, serve_at};
-use journal::script_over;
-use logging::ErrorLog;
-use looking::look_at;
-use serving::serve_over;
 use setup::{fail_to_read, setup_text};
 use std::io::ErrorKind;
 use std::process::ExitCode;
 use std::rt::Env;
 use std::{env, io};
 use tsn_bytes::{Buffered, Fault, StdIo};
-use tsn_program::{Failure, check_lines, fail, run};
+use tsn_connections::{ErrorLog, Place, serve_at};
+use tsn_durable_server::serve_over;
+use tsn_failures::{Failure, fail};
+use tsn_program::{check_lines, run};
+use tsn_wal_queries::look_at;
+use tsn_wal_scripts::script_over;
 use tsn_words::{Asked, read_words};
 
 /// The words of the command line, the program's name first; none where a word is no UTF-8.

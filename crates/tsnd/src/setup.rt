@@ -1,11 +1,11 @@
 //! The text of the setup that words name, and why it could not be read.
-use crate::journal::error_of;
 use std::io::Read;
 use std::rt::Files;
 use std::sync::atomic::{AtomicI32, Ordering};
 use std::{fs, io};
 use tsn_bytes::{ByteOut, Fault, StdIo};
-use tsn_program::{Failure, Undone, fail, fail_start, read_setup};
+use tsn_failures::{Failure, Undone, fail, fail_start, read_setup};
+use tsn_wal_files::error_of;
 use tsn_words::Asked;
 
 /// A reader that leaves word of why a call of it failed: the number of the system's error, and 0 as long as there is

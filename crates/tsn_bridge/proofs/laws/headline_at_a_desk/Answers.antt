@@ -2,10 +2,10 @@ use Rattle.std.proofs.Common.{List}
 use Rattle.tsn_types.specs.declared.keys.Key.{Key}
 use Rattle.tsn_types.specs.declared.limits.Limits.{Limits}
 use Rattle.tsn_types.specs.declared.records.Record.{Record}
-use Rattle.tsn_desk.specs.declared.history.Entry.{Entry}
-use Rattle.tsn_desk.specs.History.{Runs}
-use Rattle.tsn_bridge.specs.declared.command.Ask.{Ask}
-use Rattle.tsn_bridge.specs.declared.reply.Reply.{Reply}
+use Rattle.tsn_machine.specs.declared.history.Entry.{Entry}
+use Rattle.tsn_machine.specs.History.{Runs}
+use Rattle.tsn_commands.specs.declared.command.Ask.{Ask}
+use Rattle.tsn_commands.specs.declared.reply.Reply.{Reply}
 use Rattle.tsn_bridge.specs.Beginning.{Opens, begun}
 use Rattle.tsn_bridge.specs.Headline.{AtOnceUndone, OthersAlone, OthersLeft, RestoredList}
 use Rattle.tsn_bridge.specs.Histories.{StateIsSound}

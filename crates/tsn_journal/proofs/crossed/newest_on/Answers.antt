@@ -2,7 +2,7 @@ use Rattle.std.proofs.Common.{◌≡◌, ◌≤◌, max, sym, ◌∙◌, ap, sub
 use Rattle.std.specs.Option.{option_copied}
 use Rattle.std.proofs.Math.Nat.{le-max_left, le-max_right}
 use Rattle.std.proofs.lemmas.Option.{same_Some}
-use Rattle.tsn_journal.specs.declared.entries.MarkedEntry.{MarkedEntry}
+use Rattle.tsn_entries.specs.declared.entries.MarkedEntry.{MarkedEntry}
 use Rattle.tsn_journal.specs.declared.groups.Group.TheVariants.{On}
 use Rattle.tsn_journal.specs.Index.{belongs_to_others}
 use Rattle.tsn_journal.proofs.Bounding.{after_last}

@@ -1,6 +1,6 @@
 use Rattle.std.proofs.Common.{◌∙◌, ◌+◌, drop}
 use Rattle.tsn_journal.specs.Index.{is_sought}
-use Rattle.tsn_journal.specs.Marks.{later_of}
+use Rattle.tsn_entries.specs.Marks.{later_of}
 use Rattle.tsn_journal.proofs.Sought.{numbered_after, sought_groups}
 use Rattle.tsn_journal.proofs.finding.conflict_with_part.Goals as goal
 

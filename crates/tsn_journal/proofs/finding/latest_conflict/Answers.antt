@@ -1,7 +1,7 @@
 use Rattle.std.proofs.Common.{arith, ◌+◌, drop, length, get_or, sym, ◌∙◌, ap}
 use Rattle.std.specs.Prelude.{◌&&◌, is_some}
 use Rattle.tsn_journal.specs.Index.{is_sought}
-use Rattle.tsn_journal.specs.Marks.{stands}
+use Rattle.tsn_entries.specs.Marks.{stands}
 use Rattle.tsn_journal.proofs.Sought.{numbered_after, sought_next, sought_none}
 use Rattle.tsn_journal.proofs.finding.latest_conflict.Goals as goal
 

@@ -1,9 +1,9 @@
 use Rattle.std.proofs.Common.{◌≡◌, drop, take}
 use Rattle.std.specs.Prelude.{◌&&◌, is_some, option_map}
-use Rattle.tsn_journal.specs.Entries.{applies}
-use Rattle.tsn_journal.specs.Finding.{last_where}
+use Rattle.tsn_entries.specs.Entries.{applies}
+use Rattle.tsn_entries.specs.Finding.{last_where}
 use Rattle.tsn_journal.specs.Index.{is_sought}
-use Rattle.tsn_journal.specs.Marks.{is_in_conflict, stands}
+use Rattle.tsn_entries.specs.Marks.{is_in_conflict, stands}
 use Rattle.tsn_journal.proofs.finding.latest_conflict.Given as goal
 
 -- the latest so far is in conflict with the parts so far

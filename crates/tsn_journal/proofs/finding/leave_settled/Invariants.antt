@@ -1,6 +1,6 @@
 use Rattle.std.proofs.Common.{◌≡◌, ◌<◌, ◌≤◌, ℕ, Some}
 use Rattle.std.specs.List.{slice_get}
-use Rattle.tsn_journal.specs.declared.entries.MarkedEntry.{MarkedEntry}
+use Rattle.tsn_entries.specs.declared.entries.MarkedEntry.{MarkedEntry}
 use Rattle.tsn_journal.specs.Index.{IsIndexed, TakesRoom}
 use Rattle.tsn_journal.specs.Newest.{KeepsNewest, MendsNewest, groups_of}
 use Rattle.tsn_journal.specs.Touched.{TellsSame}

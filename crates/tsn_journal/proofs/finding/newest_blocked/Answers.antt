@@ -1,7 +1,7 @@
 use Rattle.std.proofs.Common.{Bool, rules}
 use Rattle.std.specs.Prelude.{is_some}
-use Rattle.tsn_journal.specs.declared.entries.MarkedEntry.{MarkedEntry}
-use Rattle.tsn_journal.specs.Marks.{conflict_of_others}
+use Rattle.tsn_entries.specs.declared.entries.MarkedEntry.{MarkedEntry}
+use Rattle.tsn_entries.specs.Marks.{conflict_of_others}
 use Rattle.tsn_journal.proofs.Bounding.{none_blocked}
 use Rattle.tsn_journal.proofs.finding.newest_blocked.Goals as goal
 

@@ -1,6 +1,6 @@
 use Rattle.std.proofs.Common.{◌≡◌, ◌+◌, suc, false, set, sym, ◌∙◌, subst, arith, length-set}
 use Rattle.std.specs.Prelude.{slice_index_or}
-use Rattle.tsn_journal.specs.Marks.{AreOff}
+use Rattle.tsn_entries.specs.Marks.{AreOff}
 use Rattle.tsn_journal.proofs.Closing.{all_off, numbered_set, off_there, one_off}
 use Rattle.tsn_journal.proofs.finding.put_off_up_to.Goals as goal
 

@@ -1,7 +1,7 @@
 use Rattle.std.proofs.Common.{◌≡◌, ◌-◌, length, map}
-use Rattle.tsn_journal.specs.declared.entries.What.TheVariants.{Settled}
-use Rattle.tsn_journal.specs.Entries.{IsNumbered}
-use Rattle.tsn_journal.specs.Marks.{AreOff, entries_of, mark_off}
+use Rattle.tsn_entries.specs.declared.entries.What.TheVariants.{Settled}
+use Rattle.tsn_entries.specs.Entries.{IsNumbered}
+use Rattle.tsn_entries.specs.Marks.{AreOff, entries_of, mark_off}
 use Rattle.tsn_journal.proofs.finding.put_off_up_to.Given as goal
 
 -- the marks so far are off, and no other is off that is not to be

@@ -1,8 +1,8 @@
 use Rattle.std.proofs.Common.{◌≡◌, ◌+◌, Bool, ◌∷◌, [], ◌++◌, cond, refl, sym, ◌∙◌, arith, filter, take}
-use Rattle.tsn_journal.specs.declared.entries.MarkedEntry.{MarkedEntry}
+use Rattle.tsn_entries.specs.declared.entries.MarkedEntry.{MarkedEntry}
 use Rattle.tsn_journal.specs.declared.groups.Group.TheVariants.{Of}
 use Rattle.tsn_journal.specs.Index.{belongs}
-use Rattle.tsn_journal.specs.Marks.{IsTally}
+use Rattle.tsn_entries.specs.Marks.{IsTally}
 use Rattle.tsn_journal.proofs.Walking.{both_told, one_told, none_told, taken_more}
 use Rattle.tsn_journal.proofs.index.tally_own.Goals as goal
 use Rattle.tsn_journal.proofs.index.tally_own.Goals.{then-is_own, else-is_own}

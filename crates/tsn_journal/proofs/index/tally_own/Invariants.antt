@@ -1,6 +1,6 @@
 use Rattle.std.proofs.Common.{◌*◌, ◌≤◌, filter, take}
 use Rattle.tsn_journal.specs.Index.{belongs}
-use Rattle.tsn_journal.specs.Marks.{IsTally}
+use Rattle.tsn_entries.specs.Marks.{IsTally}
 use Rattle.tsn_journal.specs.declared.groups.Group.TheVariants.{Of}
 use Rattle.tsn_journal.proofs.index.tally_own.Given as goal
 

@@ -1,6 +1,6 @@
 use Rattle.std.proofs.Common.{◌≡◌, ◌∙◌, None, ap, inl, inr, refl}
 use Rattle.std.proofs.KnownBytes.{Appends-kept}
-use Rattle.tsn_program.specs.declared.failures.Failure.TheVariants.{Fault}
+use Rattle.tsn_failures.specs.declared.failures.Failure.TheVariants.{Fault}
 use Rattle.tsn_program.proofs.Listing.{enables_listed, enables_not_listed, listed_within}
 use Rattle.tsn_program.specs.Listing.{Enables, listing_refusal}
 use Rattle.tsn_program.proofs.program.list_states.Given.{Over}

@@ -1,6 +1,6 @@
 use Rattle.std.proofs.Common.{subst}
-use Rattle.tsn_replies.specs.Writing.{Writes}
-use Rattle.tsn_replies.proofs.Telling.{kept_line}
+use Rattle.tsn_encoding.specs.Writing.{Writes}
+use Rattle.tsn_encoding.proofs.Telling.{kept_line}
 use Rattle.tsn_replies.proofs.reply.write_kept.Goals as goal
 
 pub returns : goal.returns

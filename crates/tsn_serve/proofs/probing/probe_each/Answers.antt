@@ -1,6 +1,7 @@
 use denote.Param.Send.{IsSend, IsSync, param_send, param_sync, sendable}
 use Rattle.std.proofs.Crossing.{crosses}
-use Rattle.tsn_bridge.proofs.Crossing.{bridge_send, desk_sync, seat_send}
+use Rattle.tsn_bridge.proofs.Crossing.{bridge_send}
+use Rattle.tsn_port.proofs.Crossing.{desk_sync, seat_send}
 use Rattle.tsn_desk.proofs.desk.Seat.TheSendSync as of_seat
 use Rattle.tsn_serve.specs.contracts.probing.probe_each.{R-row, H-row}
 use Rattle.tsn_serve.proofs.probing.probe_each.Given.{Over}

@@ -1,6 +1,6 @@
 use denote.Param.Send.{IsSend, IsSync, param_send, sendable}
 use Rattle.std.proofs.Crossing.{crosses}
-use Rattle.tsn_bridge.proofs.Crossing.{desk_sync, seat_send}
+use Rattle.tsn_port.proofs.Crossing.{desk_sync, seat_send}
 use Rattle.tsn_serve.specs.contracts.serving.serve_beside.{R-row, S-row, H-row}
 use Rattle.tsn_serve.proofs.serving.serve_beside.Given.{Over}
 use Rattle.tsn_serve.proofs.serving.serve_beside.Goals as goal

@@ -1,6 +1,6 @@
 use denote.Param.Send.{IsSync, param_send, param_sync, sendable}
 use Rattle.std.proofs.Crossing.{crosses}
-use Rattle.tsn_bridge.proofs.Crossing.{desk_sync, seat_send}
+use Rattle.tsn_port.proofs.Crossing.{desk_sync, seat_send}
 use Rattle.tsn_serve.specs.contracts.serving.serve_seats.{R-row, S-row, H-row}
 use Rattle.tsn_serve.proofs.serving.serve_seats.Given.{Over}
 use Rattle.tsn_serve.proofs.serving.serve_seats.Goals as goal

@@ -1,7 +1,7 @@
 use Rattle.std.specs.Prelude.{codes}
 use Rattle.tsn_records.specs.Shown.{gate_entry_data, port_entry_data}
-use Rattle.tsn_replies.specs.Pieces.{gate_end, gate_front, port_front}
-use Rattle.tsn_replies.proofs.Pieces.{gate_text, port_text}
+use Rattle.tsn_encoding.specs.Pieces.{gate_end, gate_front, port_front}
+use Rattle.tsn_encoding.proofs.Pieces.{gate_text, port_text}
 use Rattle.tsn_spelling.proofs.Records.{record_pieces}
 use Rattle.tsn_spelling.proofs.recorded.put_record.Goals as goal
 

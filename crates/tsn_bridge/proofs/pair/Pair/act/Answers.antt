@@ -4,8 +4,8 @@ use Rattle.std.specs.FinMap.{get}
 use Rattle.tsn_types.specs.Limits.{first_cause}
 use Rattle.tsn_types.specs.Refusals.{IsLeastOrMemory}
 use Rattle.tsn_edit.specs.Configuration.{Configuration}
-use Rattle.tsn_journal.specs.declared.entries.What.TheVariants.{Acted}
-use Rattle.tsn_journal.specs.Entries.{no_room}
+use Rattle.tsn_entries.specs.declared.entries.What.TheVariants.{Acted}
+use Rattle.tsn_entries.specs.Entries.{no_room}
 use Rattle.tsn_undo.specs.Ledger.{Ledger, enter, present}
 use Rattle.tsn_chain.specs.Acts.{HasList, KeyRefuses}
 use Rattle.tsn_bridge.specs.Acts.{act_causes}

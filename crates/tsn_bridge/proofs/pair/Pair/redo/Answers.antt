@@ -1,6 +1,6 @@
 use Rattle.std.proofs.Common.{refl, subst}
 use Rattle.tsn_edit.specs.Parts.{inverse}
-use Rattle.tsn_journal.specs.Entries.{redone}
+use Rattle.tsn_entries.specs.Entries.{redone}
 use Rattle.tsn_undo.specs.Redo.{Redoes}
 use Rattle.tsn_bridge.specs.Pair.{PairState}
 use Rattle.tsn_bridge.specs.Together.{Follows}

@@ -1,5 +1,5 @@
 use Rattle.std.proofs.Common.{◌≡◌, ◌∙◌, ◌≤◌, ap, arith, length, rules, subst}
-use Rattle.tsn_journal.specs.Finding.{own_standing, parts_of_all}
+use Rattle.tsn_entries.specs.Finding.{own_standing, parts_of_all}
 use Rattle.tsn_undo.specs.Ledger.{Ledger}
 use Rattle.tsn_bridge.specs.Pair.{PairState}
 use Rattle.tsn_bridge.specs.Together.{FollowsAll, room_behind}

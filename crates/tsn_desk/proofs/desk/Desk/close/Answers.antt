@@ -8,7 +8,7 @@ use Rattle.tsn_desk.proofs.Everywhere.{at_all}
 use Rattle.tsn_desk.proofs.Outside.{closes_seats}
 use Rattle.tsn_desk.specs.Desks.{IsSeatOf}
 use Rattle.tsn_desk.specs.Seats.{seen, first_of, Closes}
-use Rattle.tsn_desk.proofs.Begin.{begins_self}
+use Rattle.tsn_machine.proofs.Begin.{begins_self}
 use Rattle.tsn_desk.proofs.Closing.{AllBegin-more, closing, same_machine, slice_get_front, slice_get_last, no_length, Some_same, None_Some}
 use Rattle.tsn_desk.proofs.desk.Desk.close.Given.{Over}
 use Rattle.tsn_desk.proofs.desk.Desk.close.Goals.{After-take-slot}

@@ -1,6 +1,6 @@
 use Rattle.std.proofs.Common.{ap}
 use Rattle.tsn_desk.specs.Seats.{seen}
-use Rattle.tsn_desk.proofs.Begin.{begins_either}
+use Rattle.tsn_machine.proofs.Begin.{begins_either}
 use Rattle.tsn_desk.proofs.desk.Desk.meet.Goals as goal
 
 pub returns-clause-one_line : goal.returns-clause-one_line

@@ -1,5 +1,5 @@
 use Rattle.std.proofs.Common.{[], sym, subst, ◌∙◌, ap, arith}
-use Rattle.tsn_journal.specs.Entries.{added_parts}
+use Rattle.tsn_entries.specs.Entries.{added_parts}
 use Rattle.tsn_journal.specs.Index.{HasRoom, TakesRoom, nodes_for}
 use Rattle.tsn_journal.proofs.Keeping.{indexed_same}
 use Rattle.tsn_journal.proofs.index.Index.enter.Goals as goal

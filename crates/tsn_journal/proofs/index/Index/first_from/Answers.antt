@@ -14,4 +14,4 @@ back-preserved c =
     step c.args.marked.now c.args.self.now.nodes.items c.args.group.now c.back.node c.index-at.result.now c.back.invariant.group
     (node_there _ _ _ c.back-test.true c.back.invariant.within c.index-at.ensures) c.requires.nodes
     (belongs c.args.group.now) (length c.args.marked.now + 1) (λ m h. h) c.back.invariant c.numbered.result.now c.numbered.ensures
-    (sym c.is_in.ensures ∙ c.if-is_in.false)
+    (sym c.has.ensures ∙ c.if-has.false)

@@ -1,6 +1,6 @@
 use Rattle.std.proofs.Common.{◌+◌, ◌≤◌, ◌&&◌, Bool, sym, ◌∙◌, subst, arith, length}
 use Rattle.std.proofs.lemmas.Bool.{and_from}
-use Rattle.tsn_journal.specs.declared.entries.MarkedEntry.{MarkedEntry}
+use Rattle.tsn_entries.specs.declared.entries.MarkedEntry.{MarkedEntry}
 use Rattle.tsn_journal.specs.Index.{belongs, number_at, number_of}
 use Rattle.tsn_journal.proofs.Links.{came_to, next_group, node_there, step_none}
 use Rattle.tsn_journal.proofs.Walking.{and_out, found_from, in_list, none_from}
@@ -26,7 +26,7 @@ returns-then-test g c = λ p answers.
     at.some at.within c.numbered-entry.ensures
     (λ i m low is. c.back.invariant.none_later p answers i m (subst (λ o. number_of o ≤ i) (sym here) low)
     (in_list c.args.marked.now i m is) is)
-    (and_from _ _ (sym c.is_in.ensures ∙ c.if-is_in.true) (sym (answers _ _ c.test.ensures) ∙ c.if-test.true)))
+    (and_from _ _ (sym c.has.ensures ∙ c.if-has.true) (sym (answers _ _ c.test.ensures) ∙ c.if-test.true)))
 
 pub back-preserved : goal.back-preserved
 back-preserved g c =

@@ -1,7 +1,7 @@
 use Rattle.std.proofs.Common.{◌≡◌, ◌+◌, ◌≤◌, Bool, true, ◌&&◌, length}
-use Rattle.tsn_journal.specs.Tests.{Tests}
+use Rattle.tsn_entries.specs.Tests.{Tests}
 use Rattle.tsn_journal.specs.Index.{NoneBetween, belongs, is_of, number_at, node_at}
-use Rattle.tsn_journal.specs.declared.entries.MarkedEntry.{MarkedEntry}
+use Rattle.tsn_entries.specs.declared.entries.MarkedEntry.{MarkedEntry}
 use Rattle.tsn_journal.proofs.index.Index.last_in.Given as goal
 
 abbrev pub invariant-back : goal.invariant-back

@@ -22,8 +22,8 @@ back-preserved-then-is_of c =
     (length c.args.marked.now + 1) c.back.invariant
     (ap (is_by c.args.session) c.numbered-entry.ensures ∙ sym c.is_of.ensures ∙ c.if-is_of.true)
 
-pub returns-then-is_in : goal.returns-then-is_in
-returns-then-is_in c =
+pub returns-then-has : goal.returns-then-has
+returns-then-has c =
     let at = came_to c.back-test.true c.back.invariant.within c.index-found.ensures c.requires.index.nodes in
     let here = node_there _ _ _ c.back-test.true c.back.invariant.within c.index-found.ensures in
     sym (found_after (belongs_to_others c.args.group.now c.args.session) c.args.marked.now c.args.after c.index-found.result.now.number
@@ -31,7 +31,7 @@ returns-then-is_in c =
     (λ i m low is. none_after c.args.group.now (belongs_to_others c.args.group.now c.args.session) c.args.marked.now
     c.args.self.now.nodes.items c.back.node c.back.invariant i m
     (subst (λ o. number_of o ≤ i) (sym here) low) is)
-    (and_from _ _ (sym c.is_in.ensures ∙ c.if-is_in.true) (ap not (sym c.is_of.ensures ∙ c.if-is_of.false))))
+    (and_from _ _ (sym c.has.ensures ∙ c.if-has.true) (ap not (sym c.is_of.ensures ∙ c.if-is_of.false))))
 
 pub back-smaller : goal.back-smaller
 back-smaller c =
@@ -43,7 +43,7 @@ back-preserved c =
     (node_there _ _ _ c.back-test.true c.back.invariant.within c.index-found.ensures) c.requires.index.nodes
     (belongs_to_others c.args.group.now c.args.session) (length c.args.marked.now + 1)
     (not_of_others c.args.group.now c.args.session) c.back.invariant c.numbered-entry.result.now c.numbered-entry.ensures
-    (not_of_others c.args.group.now c.args.session c.numbered-entry.result.now (sym c.is_in.ensures ∙ c.if-is_in.false))
+    (not_of_others c.args.group.now c.args.session c.numbered-entry.result.now (sym c.has.ensures ∙ c.if-has.false))
 
 pub returns : goal.returns
 returns c =

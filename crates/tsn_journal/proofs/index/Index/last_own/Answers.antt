@@ -1,10 +1,10 @@
 use Rattle.std.proofs.Common.{◌+◌, ◌≤◌, ◌&&◌, Bool, sym, ◌∙◌, subst, arith, length, rules}
 use Rattle.std.proofs.lemmas.List.{length-take-le}
 use Rattle.std.proofs.lemmas.Bool.{and_from}
-use Rattle.tsn_journal.specs.declared.entries.MarkedEntry.{MarkedEntry}
+use Rattle.tsn_entries.specs.declared.entries.MarkedEntry.{MarkedEntry}
 use Rattle.tsn_journal.specs.declared.groups.Group.TheVariants.{Of}
 use Rattle.tsn_journal.specs.Index.{belongs, number_at, number_of}
-use Rattle.tsn_journal.specs.Marks.{is_own}
+use Rattle.tsn_entries.specs.Marks.{is_own}
 use Rattle.tsn_journal.proofs.Links.{came_to, next_group, node_there, step_beyond, step_none}
 use Rattle.tsn_journal.proofs.Lowering.{newest_told}
 use Rattle.tsn_journal.proofs.Walking.{and_out, found_from, in_list, last_upto, none_from}

@@ -1,8 +1,8 @@
 use Rattle.std.proofs.Common.{◌≡◌, ◌+◌, ◌≤◌, Bool, true, ◌&&◌, length}
-use Rattle.tsn_journal.specs.Tests.{Tests}
+use Rattle.tsn_entries.specs.Tests.{Tests}
 use Rattle.tsn_journal.specs.Index.{NoneBetween, NoneFrom, is_of, number_at, node_at}
-use Rattle.tsn_journal.specs.Marks.{is_own}
-use Rattle.tsn_journal.specs.declared.entries.MarkedEntry.{MarkedEntry}
+use Rattle.tsn_entries.specs.Marks.{is_own}
+use Rattle.tsn_entries.specs.declared.entries.MarkedEntry.{MarkedEntry}
 use Rattle.tsn_journal.specs.declared.groups.Group.TheVariants.{Of}
 use Rattle.tsn_journal.proofs.index.Index.last_own.Given as goal
 

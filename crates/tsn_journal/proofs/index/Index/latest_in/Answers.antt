@@ -1,7 +1,7 @@
 use Rattle.std.proofs.Common.{Bool, true, ◌∙◌, rules}
 use Rattle.std.proofs.Math.Bool.{and-true}
-use Rattle.tsn_journal.specs.declared.entries.MarkedEntry.{MarkedEntry}
-use Rattle.tsn_journal.specs.Finding.{last_where}
+use Rattle.tsn_entries.specs.declared.entries.MarkedEntry.{MarkedEntry}
+use Rattle.tsn_entries.specs.Finding.{last_where}
 use Rattle.tsn_journal.specs.Index.{belongs}
 use Rattle.tsn_journal.proofs.index.Index.latest_in.Goals as goal
 

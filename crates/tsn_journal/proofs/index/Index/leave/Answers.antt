@@ -2,7 +2,7 @@ use Rattle.std.proofs.Common.{◌≡◌, ◌∷◌, [], ◌++◌, Option, Some, 
 use Rattle.std.specs.Option.{option_copied}
 use Rattle.tsn_edit.specs.Parts.{Change, parts}
 use Rattle.tsn_journal.specs.declared.groups.Group.TheVariants.{Of, EndsRedo}
-use Rattle.tsn_journal.specs.Entries.{adds}
+use Rattle.tsn_entries.specs.Entries.{adds}
 use Rattle.tsn_journal.specs.Newest.{MendsNewest, groups_added}
 use Rattle.tsn_journal.proofs.Newest.{mends_then}
 use Rattle.tsn_journal.specs.declared.index.Index.{Index}

@@ -1,6 +1,6 @@
 use Rattle.std.proofs.Common.{◌≡◌, ◌*◌, ◌+◌, ◌≤◌, true, drop, filter, length}
 use Rattle.tsn_journal.specs.Index.{belongs, is_of, number_at, node_at}
-use Rattle.tsn_journal.specs.Marks.{IsTally}
+use Rattle.tsn_entries.specs.Marks.{IsTally}
 use Rattle.tsn_journal.specs.declared.groups.Group.TheVariants.{Of}
 use Rattle.tsn_journal.proofs.index.Index.tally_of.Given as goal
 

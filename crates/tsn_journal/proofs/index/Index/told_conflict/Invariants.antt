@@ -1,11 +1,11 @@
 use Rattle.std.proofs.Common.{◌≡◌, List, Some, take, true}
 use Rattle.std.specs.Prelude.{◌&&◌, option_map}
-use Rattle.tsn_journal.specs.declared.entries.Entry.{Entry}
-use Rattle.tsn_journal.specs.declared.entries.MarkedEntry.{MarkedEntry}
-use Rattle.tsn_journal.specs.Entries.{applies}
-use Rattle.tsn_journal.specs.Finding.{last_where}
+use Rattle.tsn_entries.specs.declared.entries.Entry.{Entry}
+use Rattle.tsn_entries.specs.declared.entries.MarkedEntry.{MarkedEntry}
+use Rattle.tsn_entries.specs.Entries.{applies}
+use Rattle.tsn_entries.specs.Finding.{last_where}
 use Rattle.tsn_journal.specs.Index.{above}
-use Rattle.tsn_journal.specs.Marks.{is_in_conflict}
+use Rattle.tsn_entries.specs.Marks.{is_in_conflict}
 use Rattle.tsn_journal.specs.Touched.{CanTell}
 use Rattle.tsn_journal.proofs.index.Index.told_conflict.Given as goal
 

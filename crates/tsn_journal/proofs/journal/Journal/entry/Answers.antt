@@ -2,10 +2,10 @@ use Rattle.std.proofs.Common.{◌≡◌, ℕ, List, Option, sym, ◌∙◌, ap}
 use Rattle.std.specs.Prelude.{◌==◌, option_map}
 use Rattle.std.specs.List.{find}
 use Rattle.std.specs.Option.{option_copied}
-use Rattle.tsn_journal.specs.declared.entries.Entry.{Entry}
-use Rattle.tsn_journal.specs.declared.entries.MarkedEntry.{MarkedEntry}
-use Rattle.tsn_journal.specs.Finding.{entry}
-use Rattle.tsn_journal.specs.Marks.{Log, entries_of}
+use Rattle.tsn_entries.specs.declared.entries.Entry.{Entry}
+use Rattle.tsn_entries.specs.declared.entries.MarkedEntry.{MarkedEntry}
+use Rattle.tsn_entries.specs.Finding.{entry}
+use Rattle.tsn_entries.specs.Marks.{Log, entries_of}
 use Rattle.tsn_journal.proofs.Marking.{find_entry}
 use Rattle.tsn_journal.proofs.journal.Journal.entry.Goals as goal
 

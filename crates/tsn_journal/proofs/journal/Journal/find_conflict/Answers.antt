@@ -2,8 +2,8 @@ use Rattle.std.proofs.Common.{Bool, ◌∙◌, ap, sym, subst}
 use Rattle.std.specs.Prelude.{is_some, option_map}
 use Rattle.std.specs.Option.{option_and_then, option_copied}
 use Rattle.std.proofs.Math.Bool.{and-true}
-use Rattle.tsn_journal.specs.declared.entries.MarkedEntry.{MarkedEntry}
-use Rattle.tsn_journal.specs.Marks.{Log, conflict_after, stands}
+use Rattle.tsn_entries.specs.declared.entries.MarkedEntry.{MarkedEntry}
+use Rattle.tsn_entries.specs.Marks.{Log, conflict_after, stands}
 use Rattle.tsn_journal.proofs.Conflicts.{standing_conflict}
 use Rattle.tsn_journal.specs.Index.{IsIndexed}
 use Rattle.tsn_journal.proofs.journal.Journal.find_conflict.Goals as goal

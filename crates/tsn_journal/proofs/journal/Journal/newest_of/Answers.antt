@@ -1,9 +1,9 @@
 use Rattle.std.proofs.Common.{◌≡◌, ℕ, List, Option, sym, ◌∙◌, ap, subst, arith}
 use Rattle.std.specs.Prelude.{option_map}
-use Rattle.tsn_journal.specs.declared.entries.MarkedEntry.{MarkedEntry}
-use Rattle.tsn_journal.specs.Entries.{Applied}
-use Rattle.tsn_journal.specs.Finding.{last_of, last_where}
-use Rattle.tsn_journal.specs.Marks.{IsJournal, Log, entries_of, is_own}
+use Rattle.tsn_entries.specs.declared.entries.MarkedEntry.{MarkedEntry}
+use Rattle.tsn_entries.specs.Entries.{Applied}
+use Rattle.tsn_entries.specs.Finding.{last_of, last_where}
+use Rattle.tsn_entries.specs.Marks.{IsJournal, Log, entries_of, is_own}
 use Rattle.tsn_journal.proofs.Finders.{last_standing, own_agrees}
 use Rattle.tsn_journal.specs.Index.{IsIndexed}
 use Rattle.tsn_journal.proofs.journal.Journal.newest_of.Goals as goal

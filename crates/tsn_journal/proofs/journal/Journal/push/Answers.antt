@@ -1,12 +1,12 @@
 use Rattle.std.proofs.Common.{◌≡◌, ◌≤◌, ◌∷◌, ◌++◌, [], refl, sym, ◌∙◌, ap, subst, drop, length, map, add-zero, arith, max}
 use Rattle.tsn_journal.specs.Crossed.{IsRaised, NoneCrossed}
-use Rattle.tsn_journal.specs.Entries.{IsNumbered, added_parts, adds, with_entry}
+use Rattle.tsn_entries.specs.Entries.{IsNumbered, added_parts, adds, with_entry}
 use Rattle.tsn_journal.specs.Index.{IsIndexed, IsIndexedButNewest, NewestAdds, TakesRoom, nodes_for}
-use Rattle.tsn_journal.specs.Marks.{AreOff, Log, entries_of, mark_off}
+use Rattle.tsn_entries.specs.Marks.{AreOff, Log, entries_of, mark_off}
 use Rattle.std.specs.Prelude.{◌==◌}
 use Rattle.std.specs.List.{find, slice_get}
 use Rattle.std.specs.Vec.{vec_capacity, vec_len}
-use Rattle.tsn_journal.specs.declared.entries.MarkedEntry.{MarkedEntry}
+use Rattle.tsn_entries.specs.declared.entries.MarkedEntry.{MarkedEntry}
 use Rattle.tsn_journal.specs.Newest.{KeepsNewest, MendsNewest, groups_of}
 use Rattle.tsn_journal.proofs.Indexing.{takes_more}
 use Rattle.tsn_journal.proofs.Keeping.{kept_pushed, off_more, pushed_adds, pushed_free, pushed_index, pushed_numbered, pushed_referred, pushed_tells, settles_there}

@@ -1,10 +1,10 @@
 use Rattle.std.proofs.Common.{◌≡◌, ℕ, List, Option, sym, ◌∙◌, ap, subst}
 use Rattle.std.specs.Prelude.{◌==◌, ◌&&◌, IfSome, IsSome, option_map}
 use Rattle.std.specs.Option.{option_and_then, option_copied}
-use Rattle.tsn_journal.specs.declared.entries.MarkedEntry.{MarkedEntry}
-use Rattle.tsn_journal.specs.Entries.{Applied, applied, undoes}
-use Rattle.tsn_journal.specs.Finding.{last_where, redo_of, undone_entry}
-use Rattle.tsn_journal.specs.Marks.{IsJournal, Log, ends_redo, entries_of}
+use Rattle.tsn_entries.specs.declared.entries.MarkedEntry.{MarkedEntry}
+use Rattle.tsn_entries.specs.Entries.{Applied, applied, undoes}
+use Rattle.tsn_entries.specs.Finding.{last_where, redo_of, undone_entry}
+use Rattle.tsn_entries.specs.Marks.{IsJournal, Log, ends_redo, entries_of}
 use Rattle.tsn_journal.proofs.Finders.{redo_marked}
 use Rattle.tsn_journal.proofs.Standing.{redo_is_undone}
 use Rattle.tsn_journal.specs.Index.{IsIndexed}

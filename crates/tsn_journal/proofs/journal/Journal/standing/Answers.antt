@@ -2,10 +2,10 @@ use Rattle.std.proofs.Common.{◌≡◌, ℕ, List, Option, sym, ◌∙◌, ap}
 use Rattle.std.specs.Prelude.{◌==◌, is_some}
 use Rattle.std.specs.List.{find}
 use Rattle.std.specs.Option.{option_and_then, option_copied}
-use Rattle.tsn_journal.specs.declared.entries.Entry.{Entry}
-use Rattle.tsn_journal.specs.declared.entries.MarkedEntry.{MarkedEntry}
-use Rattle.tsn_journal.specs.Finding.{standing_entry}
-use Rattle.tsn_journal.specs.Marks.{IsJournal, Log, entries_of, stands}
+use Rattle.tsn_entries.specs.declared.entries.Entry.{Entry}
+use Rattle.tsn_entries.specs.declared.entries.MarkedEntry.{MarkedEntry}
+use Rattle.tsn_entries.specs.Finding.{standing_entry}
+use Rattle.tsn_entries.specs.Marks.{IsJournal, Log, entries_of, stands}
 use Rattle.tsn_journal.proofs.Finders.{standing_at}
 use Rattle.tsn_journal.proofs.journal.Journal.standing.Goals as goal
 

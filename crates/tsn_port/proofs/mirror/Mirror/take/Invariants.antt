@@ -1,6 +1,6 @@
 use Rattle.std.proofs.Common.{◌≡◌, ◌+◌, ◌++◌, List, take}
 use Rattle.tsn_types.specs.declared.records.PortGates.{PortGates}
-use Rattle.tsn_journal.specs.declared.entries.Entry.{Entry}
+use Rattle.tsn_entries.specs.declared.entries.Entry.{Entry}
 use Rattle.tsn_port.specs.Mirrors.{AreOfPort, Mirrors, mirrored}
 use Rattle.tsn_port.proofs.mirror.Mirror.take.Given as goal
 

@@ -1,5 +1,5 @@
 use Rattle.std.proofs.Common.{refl, ◌∙◌, ap, subst, sym}
-use Rattle.tsn_bridge.specs.declared.command.Ask.{Ask}
+use Rattle.tsn_commands.specs.declared.command.Ask.{Ask}
 use Rattle.tsn_bridge.specs.Histories.{Answers}
 use Rattle.tsn_replay.specs.Forms.{FormOf}
 use Rattle.tsn_replay.specs.Recorder.{Recording, Records}

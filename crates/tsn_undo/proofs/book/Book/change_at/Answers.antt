@@ -1,7 +1,7 @@
 use Rattle.std.proofs.Common.{◌≡◌, Some, sym, ◌∙◌, ap}
 use Rattle.std.specs.Prelude.{is_some}
 use Rattle.std.specs.Option.{option_copied}
-use Rattle.tsn_journal.specs.Finding.{entry}
+use Rattle.tsn_entries.specs.Finding.{entry}
 use Rattle.tsn_undo.proofs.Free.{change_of_entry, entry_there, some_copied}
 use Rattle.tsn_undo.proofs.book.Book.change_at.Goals as goal
 

@@ -1,6 +1,6 @@
 use Rattle.std.proofs.Common.{refl, ◌∙◌, ap}
 use Rattle.tsn_edit.specs.Runs.{run}
-use Rattle.tsn_journal.specs.declared.entries.What.TheVariants.{Acted}
+use Rattle.tsn_entries.specs.declared.entries.What.TheVariants.{Acted}
 use Rattle.tsn_undo.specs.Ledger.{present}
 use Rattle.tsn_undo.proofs.Adding.{nothing_push, sound_quiet}
 use Rattle.tsn_undo.proofs.book.Book.enter_act.Goals as goal

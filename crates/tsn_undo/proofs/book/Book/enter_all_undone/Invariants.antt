@@ -1,8 +1,8 @@
 use Rattle.std.proofs.Common.{◌≡◌, length, map}
 use Rattle.std.specs.Prelude.{◌==◌}
 use Rattle.std.specs.Vec.{vec_len}
-use Rattle.tsn_journal.specs.Entries.{standing}
-use Rattle.tsn_journal.specs.Finding.{own_standing}
+use Rattle.tsn_entries.specs.Entries.{standing}
+use Rattle.tsn_entries.specs.Finding.{own_standing}
 use Rattle.tsn_undo.specs.Commuting.{IsClosed}
 use Rattle.tsn_undo.specs.Ledger.{Holds}
 use Rattle.tsn_undo.specs.UndoAll.{all_undone, room_left, taking_back}

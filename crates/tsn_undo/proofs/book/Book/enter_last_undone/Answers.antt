@@ -1,7 +1,7 @@
 use Rattle.std.proofs.Common.{◌∙◌, ap, map, subst, sym}
 use Rattle.std.specs.Prelude.{◌==◌}
-use Rattle.tsn_journal.specs.Entries.{Applied, standing}
-use Rattle.tsn_journal.specs.Finding.{own_standing}
+use Rattle.tsn_entries.specs.Entries.{Applied, standing}
+use Rattle.tsn_entries.specs.Finding.{own_standing}
 use Rattle.tsn_undo.specs.Commuting.{IsClosed}
 use Rattle.tsn_undo.specs.Ledger.{Ledger}
 use Rattle.tsn_undo.specs.UndoAll.{all_undone, taking_back}

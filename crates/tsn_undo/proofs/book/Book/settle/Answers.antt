@@ -1,6 +1,6 @@
 use Rattle.std.proofs.Common.{◌+◌, sym, ◌∙◌, ap, subst, length}
-use Rattle.tsn_journal.specs.declared.entries.What.TheVariants.{Settled}
-use Rattle.tsn_journal.specs.Entries.{with_entry}
+use Rattle.tsn_entries.specs.declared.entries.What.TheVariants.{Settled}
+use Rattle.tsn_entries.specs.Entries.{with_entry}
 use Rattle.tsn_undo.specs.Ledger.{Ledger, enter}
 use Rattle.tsn_undo.specs.Soundness.{IsSound}
 use Rattle.tsn_undo.proofs.Adding.{sound_settled}

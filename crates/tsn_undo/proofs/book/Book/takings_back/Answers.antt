@@ -1,7 +1,7 @@
 use Rattle.std.proofs.Common.{◌≡◌, ◌+◌, ◌∙◌, [], ◌∷◌, ◌++◌, append_assoc, ap, arith, drop, map, sym}
 use Rattle.std.specs.Prelude.{is_some}
-use Rattle.tsn_journal.specs.Entries.{Applied}
-use Rattle.tsn_journal.specs.Finding.{own_standing}
+use Rattle.tsn_entries.specs.Entries.{Applied}
+use Rattle.tsn_entries.specs.Finding.{own_standing}
 use Rattle.tsn_undo.specs.UndoAll.{taking_back}
 use Rattle.tsn_undo.proofs.UndoAll.{own_at}
 use Rattle.tsn_undo.proofs.book.Book.takings_back.Goals as goal

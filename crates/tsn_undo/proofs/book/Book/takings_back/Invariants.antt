@@ -1,6 +1,6 @@
 use Rattle.std.proofs.Common.{◌≡◌, ◌≤◌, ◌++◌, drop, length, map}
 use Rattle.std.specs.Vec.{vec_len, vec_capacity}
-use Rattle.tsn_journal.specs.Finding.{own_standing}
+use Rattle.tsn_entries.specs.Finding.{own_standing}
 use Rattle.tsn_undo.specs.UndoAll.{taking_back}
 use Rattle.tsn_undo.proofs.book.Book.takings_back.Given as goal
 

@@ -1,7 +1,7 @@
 use Rattle.std.proofs.Common.{◌+◌, ◌∙◌, ap, length, subst}
 use Rattle.tsn_edit.specs.Batches.{change_of}
 use Rattle.tsn_edit.specs.Changes.{Fits}
-use Rattle.tsn_journal.specs.declared.entries.What.TheVariants.{Made}
+use Rattle.tsn_entries.specs.declared.entries.What.TheVariants.{Made}
 use Rattle.tsn_undo.specs.Ledger.{Ledger, enter, present}
 use Rattle.tsn_undo.proofs.Free.{edit_admitted, is_memory}
 use Rattle.tsn_undo.proofs.Making.{makes_edit}

@@ -2,9 +2,9 @@ use Rattle.std.proofs.Common.{◌≡◌, ◌+◌, ◌∙◌, sym, ap, subst, len
 use Rattle.std.specs.Prelude.{is_some}
 use Rattle.tsn_edit.specs.Changes.{Fits}
 use Rattle.tsn_edit.specs.Parts.{Change, inverse}
-use Rattle.tsn_journal.specs.declared.entries.What.{What}
-use Rattle.tsn_journal.specs.declared.entries.What.TheVariants.{Undone}
-use Rattle.tsn_journal.specs.Entries.{with_entry}
+use Rattle.tsn_entries.specs.declared.entries.What.{What}
+use Rattle.tsn_entries.specs.declared.entries.What.TheVariants.{Undone}
+use Rattle.tsn_entries.specs.Entries.{with_entry}
 use Rattle.tsn_undo.specs.declared.book.TakingBack.{TakingBack}
 use Rattle.tsn_undo.specs.Ledger.{Ledger, enter, present}
 use Rattle.tsn_undo.specs.Soundness.{IsSound}

@@ -1,8 +1,8 @@
 use Rattle.std.proofs.Common.{◌≡◌, ◌∙◌, ap, arith, length, sym, subst}
 use Rattle.std.proofs.lemmas.List.{length-map}
 use Rattle.std.specs.Prelude.{◌==◌}
-use Rattle.tsn_journal.specs.Entries.{Applied, standing}
-use Rattle.tsn_journal.specs.Finding.{own_standing}
+use Rattle.tsn_entries.specs.Entries.{Applied, standing}
+use Rattle.tsn_entries.specs.Finding.{own_standing}
 use Rattle.tsn_undo.specs.Commuting.{IsClosed}
 use Rattle.tsn_undo.specs.Ledger.{Ledger}
 use Rattle.tsn_undo.specs.UndoAll.{taking_back, with_undone}

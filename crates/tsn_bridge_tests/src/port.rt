@@ -1,0 +1,3 @@
+//! Tests of `tsn_port` over its public calls alone.
+mod tests;
+mod worked;

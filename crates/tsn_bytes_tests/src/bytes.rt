@@ -1,0 +1,2 @@
+//! Tests of `tsn_bytes` over its public calls alone.
+mod tests;

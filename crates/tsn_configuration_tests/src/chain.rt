@@ -1,0 +1,2 @@
+//! Tests of `tsn_chain` over its public calls alone.
+mod tests;

@@ -1,0 +1,2 @@
+//! Tests of `tsn_journal` over its public calls alone.
+mod tests;

@@ -1,0 +1,2 @@
+//! Tests of `tsn_undo` over its public calls alone.
+mod tests;

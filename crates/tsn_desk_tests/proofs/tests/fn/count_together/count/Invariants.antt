@@ -1,5 +1,0 @@
-use Rattle.tsn_desk.specs.Desks.{IsSeatOf}
-use Rattle.tsn_desk_tests.proofs.tests.fn.count_together.count.Given as goal
-
-abbrev pub invariant-loop : goal.invariant-loop
-invariant-loop g l = IsSeatOf l.desk l.seat

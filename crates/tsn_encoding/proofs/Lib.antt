@@ -1,0 +1,10 @@
+pub mod Bytes
+pub mod Grown
+pub mod Names
+pub mod Numerals
+pub mod OnLiterals
+pub mod Pieces
+pub mod Escapes
+pub mod Setups
+pub mod Telling
+pub mod Written

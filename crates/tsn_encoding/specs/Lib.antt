@@ -1,0 +1,5 @@
+pub mod Digits
+pub mod Pieces
+pub mod Shown
+pub mod Told
+pub mod Writing

@@ -1,0 +1,2 @@
+//! Tests of `tsn_program` over its public calls alone.
+mod tests;

@@ -1,0 +1,2 @@
+//! Tests of `tsn_serve` over its public calls alone.
+mod tests;

@@ -1,0 +1,3 @@
+//! Tests of `tsn_server` over its public calls alone.
+mod client;
+mod tests;

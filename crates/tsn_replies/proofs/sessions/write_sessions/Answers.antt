@@ -1,9 +1,0 @@
-use Rattle.std.proofs.Common.{refl, ap, codes, ◌++◌, ◌∙◌}
-use Rattle.tsn_replies.proofs.Pieces.{sessions_line}
-use Rattle.tsn_replies.proofs.Written.{written_as}
-use Rattle.tsn_replies.proofs.sessions.write_sessions.Goals as goal
-
-pub returns : goal.returns
-returns g c = written_as _ _ _ _ _ _ _ (sessions_line c.args.sessions.now c.push.new.self _
-    (c.push.ensures.text ∙ ap (λ l. l ++ codes "{\"sessions\":[") c.requires) refl) c.write_listed.ensures.ok
-    c.write_listed.ensures.worked c.write_listed.ensures.fault c.write_listed.ensures.failed c.write_listed.ensures.cut

@@ -1,7 +1,0 @@
-use Rattle.tsn_edit.specs.Changes.{keys_of}
-use Rattle.tsn_replies.proofs.Telling.{made_pieces}
-use Rattle.tsn_replies.proofs.told.push_made.Goals as goal
-
-pub returns-clause-text : goal.returns-clause-text
-returns-clause-text c = made_pieces c.args.number c.args.session (keys_of c.args.change.now) _ _ _ _ _ c.push_number.ensures.text
-    c.push_keys.ensures.text (rw c.from.ensures at c.push_number-2.ensures.text) c.push.ensures.text

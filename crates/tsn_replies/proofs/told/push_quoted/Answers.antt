@@ -1,7 +1,0 @@
-use Rattle.std.proofs.Common.{rules}
-use Rattle.tsn_replies.proofs.Telling.{quoted_pieces}
-use Rattle.tsn_replies.proofs.told.push_quoted.Goals as goal
-
-pub returns-clause-text : goal.returns-clause-text
-returns-clause-text c = quoted_pieces c.args.key c.args.text.now c.push.new.self c.push_key.new.text c.push-2.new.self (search rules)
-    c.push.ensures.text c.push_key.ensures.text c.push-2.ensures.text

@@ -1,7 +1,0 @@
-use Rattle.std.proofs.Common.{subst}
-use Rattle.tsn_replies.specs.Writing.{Writes}
-use Rattle.tsn_replies.proofs.Telling.{entries_line}
-use Rattle.tsn_replies.proofs.told.write_entries.Goals as goal
-
-pub returns : goal.returns
-returns g c = subst (Writes _ _ _ _ _) (entries_line c.args.entries.now) c.write_told.ensures

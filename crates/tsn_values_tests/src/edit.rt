@@ -1,0 +1,2 @@
+//! Tests of `tsn_edit` over its public calls alone.
+mod tests;

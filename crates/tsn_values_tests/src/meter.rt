@@ -1,0 +1,2 @@
+//! Tests of `tsn_meter` over its public calls alone.
+mod tests;

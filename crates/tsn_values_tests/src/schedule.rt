@@ -1,0 +1,3 @@
+//! Tests of `tsn_schedule` over its public calls alone.
+mod histories;
+mod tests;

@@ -1,0 +1,3 @@
+//! Tests of `tsn_table` over its public calls alone.
+mod numbers;
+mod tests;

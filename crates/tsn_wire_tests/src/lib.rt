@@ -1,8 +1,0 @@
-//! The test of `tsn_wire` that only its public calls can make: which lines it reads with no tree. What a line says is
-//! tested through the program, in the tables `lines-*.txt` and `records-*.txt` of `examples/tables`.
-//!
-//! It stands beside the crate and not in it, so that proving it does not prove the crate again.
-#![tactic(auto)]
-
-#[cfg(test)]
-mod spellings;
